@@ -1,0 +1,11 @@
+pub mod Limits
+pub mod Refusals
+pub mod Searches
+pub mod Lines
+pub mod Steps
+pub mod Histories
+pub mod Worlds
+pub mod Ordering
+pub mod Kept
+pub mod KeptAlways
+pub mod Listing
