@@ -65,7 +65,7 @@ pub record Reached (b : Book) (m k : ℕ) (o : OpenCommand) : Type 0 where
   pub there : b .table k ≡ Some o
   pub to : names (o .set) m ≡ true
 
-reach-ok : (b : Book) (m k : ℕ) (o : OpenCommand) → reach b m k ≡ Ok o → Reached b m k o
+pub reach-ok : (b : Book) (m k : ℕ) (o : OpenCommand) → reach b m k ≡ Ok o → Reached b m k o
 reach-ok b m k o h =
     let p = demand-ok _ _ _ _ h in
     go (b .table k) refl (ltb-true _ _ (p .0)) (p .1)

@@ -1,7 +1,7 @@
 -- A book stays sound when it changes at one number, if the changed command fits it, the members remember nothing new but that number, and the clocks leave room.
 use mathlib.Core.Bool.{true}
 use mathlib.Core.Logic.{⊎-elim}
-use mathlib.Core.Path.{_≡_, refl, sym, subst, _∙_}
+use mathlib.Core.Path.{_≡_, refl, sym, ap, subst, _∙_}
 use Prim.Native.Nat.{ℕ, _≤_}
 use native.Mathlib.Omega.{arith}
 use Rattle.std.proofs.shelf.Tests.{cases-eq}
@@ -12,8 +12,8 @@ use Rattle.ordering.specs.declared.calls.Phase.{Phase}
 use Rattle.ordering.specs.declared.calls.Phase.the-variants.{Sent, Heard, Gathered, Settled, Run}
 use Rattle.ordering.specs.Kept.{Roomy, Proposes, SoundCommand, Sound}
 use Rattle.ordering.specs.Lines.{OpenCommand, Member, Book}
-use Rattle.ordering.specs.Searches.{put, names}
-use Rattle.ordering.proofs.Basics.{none-some, put-cases}
+use Rattle.ordering.specs.Searches.{put, names, present}
+use Rattle.ordering.proofs.Basics.{none-some, absent-none, put-cases}
 use Rattle.ordering.proofs.Owed.{altered}
 
 -- What a sound book says of the command with number k.
@@ -29,7 +29,7 @@ fits b s k o there =
     record {
       numbered = s .numbered k o there;
       command = s .command k o there;
-      unheard = λ m. s .unheard m k o there;
+      unheard = λ m to sent. absent-none (b .member m .remembers k) (s .unheard m k o there to sent);
       proposals = λ q. s .proposals k q o there;
       finals = λ f. s .finals k f o there;
     }
@@ -69,7 +69,7 @@ sound-altered b n k e mem s a =
       numbered = λ j x h. all j x h .numbered;
       command = λ j x h. all j x h .command;
       known = known;
-      unheard = λ m j x h. all j x h .unheard m;
+      unheard = λ m j x h to sent. ap present (all j x h .unheard m to sent);
       clocks = a .clocks;
       proposals = λ j q x h. all j x h .proposals q;
       finals = λ j f x h. all j x h .finals f;

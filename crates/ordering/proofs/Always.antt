@@ -11,6 +11,7 @@ use Rattle.machine.specs.Kinds.{Kind, Laws}
 use Rattle.ordering.specs.declared.calls.Call.{Call}
 use Rattle.ordering.specs.declared.calls.Call.the-variants.{Open, Send, Hear, Gather, Settle, Run}
 use Rattle.ordering.specs.Histories.{Account, Event, sending, hearing, gathering, settling, blank, note, noteSend, noteHear, noteGather, noteSettle, noteRun, read}
+use Rattle.ordering.specs.Limits.{memberLimit}
 use Rattle.ordering.specs.Lines.{Book, Line, closed, opened}
 use Rattle.ordering.specs.Ordering.{Ordered, OrderedAlways}
 use Rattle.ordering.specs.Searches.{put}
@@ -35,7 +36,7 @@ data InvLine (K : Kind) (a : Account) (cells : ℕ → List ℕ) : Line → Type
   unopened : a ≡ blank → cells ≡ (λ m. K .starting) → InvLine K a cells closed
   open-inv : {b : Book} → Inv K a b cells → InvLine K a cells (opened b)
 
-inv-new : (K : Kind) (n last : ℕ) → 1 ≤ n → n ≤ 16 → Inv K blank (Rattle.ordering.specs.Steps.newBook n last) (λ m. K .starting)
+inv-new : (K : Kind) (n last : ℕ) → 1 ≤ n → n ≤ memberLimit → Inv K blank (Rattle.ordering.specs.Steps.newBook n last) (λ m. K .starting)
 inv-new K n last some few =
     record { sound = sound-new n last some few; tied = tied-new n last; members = members-new K n last }
 

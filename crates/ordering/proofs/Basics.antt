@@ -11,7 +11,7 @@ use Rattle.std.specs.declared.option.Option.{Option}
 use Rattle.std.specs.declared.option.Option.the-variants.{Some, None}
 use Rattle.std.specs.declared.result.Result.{Result}
 use Rattle.std.specs.declared.result.Result.the-variants.{Ok, Err}
-use Rattle.ordering.specs.Searches.{put}
+use Rattle.ordering.specs.Searches.{put, present}
 
 pub some-inj : {A : Type 0} {x y : A} → _≡_ {A = Option A} (Some x) (Some y) → x ≡ y
 some-inj h = cc
@@ -41,3 +41,7 @@ put-cases i j x f P here away = go (eqb i j) refl
     go : (t : Bool) → eqb i j ≡ t → P (cond t x (f j))
     go true e = here (eqb-true i j e)
     go false e = away (eqb-false i j e)
+
+pub absent-none : {A : Type 0} (o : Option A) → present o ≡ false → o ≡ None
+absent-none None h = refl
+absent-none (Some x) h = absurd (false-true (sym h))

@@ -25,4 +25,6 @@ cases-hold =
       earliest-by-number = refl;
       heard-blocks = refl;
       gathered-blocks = refl;
+      departed-remembered = refl;
+      settled-when-full-forgets = refl;
     }

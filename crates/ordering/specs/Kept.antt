@@ -12,7 +12,7 @@ use Rattle.ordering.specs.Lines.{OpenCommand, Member, Book, Line, closed, open
 use Rattle.ordering.specs.Searches.{names, present, sumBelow}
 
 -- An open command has a destination that has not run; no remembered number is above the count issued; no clock
--- exceeds 32 times the count issued, twice the member limit.
+-- exceeds 32, twice the member limit, times the count issued.
 pub record Keeps (b : Book) : Type 0 where
   pub unrun : (k : ℕ) (o : OpenCommand) → b .table k ≡ Some o → everywhere isRun o ≡ false
   pub known : (m k : ℕ) (c : Command) → b .member m .remembers k ≡ Some c → k ≤ b .issued
@@ -83,7 +83,7 @@ pub record Sound (b : Book) : Type 0 where
   pub numbered : (k : ℕ) (o : OpenCommand) → b .table k ≡ Some o → (1 ≤ k) × (k ≤ b .issued)
   pub command : (k : ℕ) (o : OpenCommand) → b .table k ≡ Some o → SoundCommand (b .members) o
   pub known : (m k : ℕ) (c : Command) → b .member m .remembers k ≡ Some c → k ≤ b .issued
-  pub unheard : (m k : ℕ) (o : OpenCommand) → b .table k ≡ Some o → names (o .set) m ≡ true → o .phase m ≡ Sent → b .member m .remembers k ≡ None
+  pub unheard : (m k : ℕ) (o : OpenCommand) → b .table k ≡ Some o → names (o .set) m ≡ true → o .phase m ≡ Sent → present (b .member m .remembers k) ≡ false
   pub clocks : (m : ℕ) → Roomy b (b .member m .clock)
   pub proposals : (k q : ℕ) (o : OpenCommand) → b .table k ≡ Some o → names (o .set) q ≡ true → Proposes (o .phase q) (Roomy b)
   pub finals : (k f : ℕ) (o : OpenCommand) → b .table k ≡ Some o → o .fixed ≡ Some f → Roomy b f

@@ -4,6 +4,7 @@ pub mod Searches
 pub mod Lines
 pub mod Steps
 pub mod Histories
+pub mod Answering
 pub mod Worlds
 pub mod Ordering
 pub mod Kept

@@ -7,7 +7,7 @@ use Rattle.machine.specs.declared.command.Command.{Command}
 use Rattle.ordering.specs.declared.calls.Phase.{Phase}
 use Rattle.ordering.specs.declared.calls.Phase.the-variants.{Sent, Heard, Gathered, Settled, Run}
 use Rattle.ordering.specs.Limits.{memberLimit}
-use Rattle.ordering.specs.Searches.{put, names, present, allBelow, countBelow, greatestBelow}
+use Rattle.ordering.specs.Searches.{names, present, allBelow, countBelow, greatestBelow}
 
 -- An open command: its address, the command, its final timestamp once fixed, and its phase at each destination.
 pub record OpenCommand : Type 0 where

@@ -124,3 +124,13 @@ pub record Cases : Type 0 where
       ≡ hearing 1 3 (Ok 0) ∷ hearing 1 2 (Ok 1) ∷ hearing 0 2 (Ok 0) ∷ hearing 0 1 (Ok 1) ∷ gathering 0 2 (Ok None) ∷
       gathering 1 2 (Ok (Some 1)) ∷ gathering 0 1 (Ok (Some 1)) ∷ settling 0 1 (Ok 1) ∷ running 0 (Err NothingReady) ∷
       settling 0 2 (Ok 1) ∷ running 0 (Ok (1, 1)) ∷ []
+  -- Number 2 has run everywhere and left the line, and is remembered all the same: number 1, heard later, conflicts with
+  -- it and does not tie with it.
+  pub departed-remembered :
+      answersAfter (Open 1 9 ∷ Send 0 1 (Set 0 5) ∷ Send 0 1 (Set 0 8) ∷ [])
+      (Hear 0 2 ∷ Gather 0 2 ∷ Settle 0 2 ∷ Run 0 ∷ Hear 0 1 ∷ Gather 0 1 ∷ Settle 0 1 ∷ Run 0 ∷ [])
+      ≡ hearing 0 2 (Ok 0) ∷ gathering 0 2 (Ok (Some 0)) ∷ settling 0 2 (Ok 0) ∷ running 0 (Ok (0, 2)) ∷
+      hearing 0 1 (Ok 1) ∷ gathering 0 1 (Ok (Some 1)) ∷ settling 0 1 (Ok 1) ∷ running 0 (Ok (1, 1)) ∷ []
+  -- A settle that finds 16 others remembered leaves the memory empty: a Set of the same axis then proposes the clock.
+  pub settled-when-full-forgets :
+      answersAfter (crowd 15 ++ (Send 0 1 (Set 0 6) ∷ [])) (crowding 15 ++ (Hear 0 20 ∷ [])) ≡ crowded 15 4 ++ (hearing 0 20 (Ok 4) ∷ [])

@@ -79,6 +79,25 @@ pub enum Refusal {
     NothingReady,
 }
 
+/// What a call answers.
+#[derive(Clone, Copy, PartialEq, Eq, Debug)]
+pub enum Answer {
+    /// The line is open.
+    Opened,
+    /// The issue number of the command that was sent.
+    Issued(u64),
+    /// The timestamp that the member proposes.
+    Proposed(u64),
+    /// The final timestamp, if the gather fixed it.
+    Fixed(Option<u64>),
+    /// The member's clock after a settle.
+    Clock(u64),
+    /// The final timestamp and the issue number of the command that ran.
+    Ran((u64, u64)),
+    /// Why the call was refused.
+    Refused(Refusal),
+}
+
 impl Refusal {
     /// The refusal's number, 1 to 13.
     pub fn number(self) -> u8

@@ -1,0 +1,5 @@
+mod Arms
+mod Sound
+mod Complete
+mod Theorem
+mod Loop
