@@ -1,7 +1,10 @@
 //! How a person reads the cells of each kind of machine.
+ghost use Prim.Native.Nat.{_<_};
 use crate::reading::Entry;
-use crate::reading::EntryDisplay;
 use crate::reading::cell;
+use crate::words::InWords;
+use crate::words::InWordsDisplay;
+use line::state::Station;
 use machine::axis_bank::AxisBank;
 use machine::axis_bank::AxisBankMachine;
 use machine::kind::Machine;
@@ -9,43 +12,22 @@ use machine::recorder::Recorder;
 use machine::recorder::RecorderMachine;
 use machine::tally::Tally;
 use machine::tally::TallyMachine;
-use std::fmt;
+use std::alloc::AllocError;
+use std::alloc::Global;
 
-/// A kind of machine whose cells can be shown in a row.
-pub(crate) trait Panel: Machine {
+/// A kind of machine whose cells can be shown, a reading to a row.
+pub(crate) trait Panel: Machine + Drop {
     /// What the kind is called.
     const NAME: &'static str;
 
     /// What its cells tell.
     const MEANING: &'static str;
 
-    /// What stands above the cells.
-    const COLUMNS: &'static str;
+    /// What the readings are called.
+    const READINGS: &'static [&'static str];
 
-    /// Writes the cells as one row.
-    fn write_cells<W: fmt::Write>(&self, f: &mut fmt::Formatter<W>) -> fmt::Result;
-}
-
-/// The cells of a machine as one row.
-#[derive(Drop)]
-pub(crate) struct Cells<'a, M>(pub(crate) &'a M);
-
-pub(crate) impl<M: Panel> fmt::Display for Cells<'_, M> as CellsDisplay {
-    fn fmt<W: fmt::Write>(&self, f: &mut fmt::Formatter<W>) -> fmt::Result {
-        self.0.write_cells(f)
-    }
-}
-
-/// Writes the first `count` cells, each in a column of its own.
-fn write_columns<M: Machine, W: fmt::Write>(
-    machine: &M,
-    count: usize,
-    f: &mut fmt::Formatter<W>,
-) -> fmt::Result {
-    for i in 0..count {
-        write!(f, "{:>8}", cell(machine, i))?;
-    }
-    Ok(())
+    /// The reading of a station at the row.
+    fn reading(heap: Global, station: &Station<Self>, row: usize) -> Result<String, AllocError>;
 }
 
 pub(crate) impl Panel for AxisBank as AxisBankPanel {
@@ -53,34 +35,57 @@ pub(crate) impl Panel for AxisBank as AxisBankPanel {
 
     const MEANING: &'static str = "the position of each axis";
 
-    const COLUMNS: &'static str =
-        "    film    flap  pusher  axis 3  axis 4  axis 5  axis 6  axis 7";
+    const READINGS: &'static [&'static str] = &[
+        "film",
+        "flap",
+        "pusher",
+        "axis 3",
+        "axis 4",
+        "axis 5",
+        "axis 6",
+        "axis 7",
+    ];
 
-    fn write_cells<W: fmt::Write>(&self, f: &mut fmt::Formatter<W>) -> fmt::Result {
-        write_columns(self, Self::CELLS, f)
+    fn reading(heap: Global, station: &Station<Self>, row: usize) -> Result<String, AllocError> {
+        cell(station, row).to_string(heap)
     }
 }
 
-/// How many of a recorder's entries stand in a row.
-const SHOWN: usize = 3;
+/// How many commands a recorder keeps.
+const KEPT: usize = 8;
+
+/// The command that a recorder keeps at the place, in words.
+fn kept<M: Machine>(heap: Global, recorder: &Station<M>, place: usize) -> Result<String, AllocError>
+    requires { ⌜ place < 8 ⌝ }
+{
+    match Entry::at(recorder, place).command() {
+        Some(command) => InWords(command).to_string(heap),
+        None => "none".to_string(heap),
+    }
+}
 
 pub(crate) impl Panel for Recorder as RecorderPanel {
     const NAME: &'static str = "Recorder";
 
-    const MEANING: &'static str = "how many commands ran, and the newest of the eight it keeps";
+    const MEANING: &'static str = "how many commands ran, and the latest eight";
 
-    const COLUMNS: &'static str = "   count  newest three: (class, first and second number)";
+    const READINGS: &'static [&'static str] = &[
+        "count",
+        "latest",
+        "2nd latest",
+        "3rd latest",
+        "4th latest",
+        "5th latest",
+        "6th latest",
+        "7th latest",
+        "8th latest",
+    ];
 
-    fn write_cells<W: fmt::Write>(&self, f: &mut fmt::Formatter<W>) -> fmt::Result {
-        write_columns(self, 1, f)?;
-        f.write_str(" ")?;
-        for place in 0..SHOWN {
-            let entry = Entry::at(self, place);
-            if entry.command().is_some() {
-                write!(f, " {entry}")?;
-            }
+    fn reading(heap: Global, station: &Station<Self>, row: usize) -> Result<String, AllocError> {
+        match row {
+            1..=KEPT => kept(heap, station, row - 1),
+            _ => cell(station, 0).to_string(heap),
         }
-        Ok(())
     }
 }
 
@@ -89,9 +94,9 @@ pub(crate) impl Panel for Tally as TallyPanel {
 
     const MEANING: &'static str = "how many commands of each class ran";
 
-    const COLUMNS: &'static str = "    sets  shifts couples   marks";
+    const READINGS: &'static [&'static str] = &["sets", "shifts", "couples", "marks"];
 
-    fn write_cells<W: fmt::Write>(&self, f: &mut fmt::Formatter<W>) -> fmt::Result {
-        write_columns(self, Self::CELLS, f)
+    fn reading(heap: Global, station: &Station<Self>, row: usize) -> Result<String, AllocError> {
+        cell(station, row).to_string(heap)
     }
 }

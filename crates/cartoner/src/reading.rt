@@ -1,4 +1,4 @@
-//! What a machine's cells say.
+//! What a station's cells say.
 ghost use lib.ListN.{getD};
 ghost use mathlib.Core.List.{[], _∷_};
 ghost use mathlib.Core.Path.{_≡_};
@@ -7,19 +7,16 @@ ghost use Rattle.cartoner.specs.Holding.{Byte-axes};
 ghost use Rattle.machine.specs.Numbers.{numbers};
 ghost use Rattle.std.specs.Options.{Cases as BySome};
 ghost use Rattle.std.specs.declared.option.Option.the-variants.{Some};
+use line::state::Station;
 use machine::command::Command;
 use machine::kind::Machine;
-use std::fmt;
 
-/// The cell at `i`, or 0 past the last.
-pub(crate) fn cell<M: Machine>(machine: &M, i: usize) -> u32
-    ensures { λ r. ⌜ r ≡ getD (M·Machine .cells (now (machine .entry))) i 0 ⌝ }
+/// The cell of the station at `i`, or 0 past the last.
+pub(crate) fn cell<M: Machine>(station: &Station<M>, i: usize) -> u32
+    ensures { λ r. ⌜ r ≡ getD (M·Machine .cells (now (station .entry) .machine)) i 0 ⌝ }
 {
-    machine.read(i).unwrap_or(0)
+    station.read(i).unwrap_or(0)
 }
-
-/// How many commands a recorder keeps.
-pub(crate) const KEPT: usize = 8;
 
 /// A command as a recorder keeps it: three numbers, all 0 where nothing ran.
 #[derive(Clone, Copy)]
@@ -31,11 +28,11 @@ pub(crate) struct Entry {
 
 impl Entry {
     /// What a recorder keeps at `place`, the newest at 0.
-    pub(crate) fn at<M: Machine>(recorder: &M, place: usize) -> Self
+    pub(crate) fn at<M: Machine>(recorder: &Station<M>, place: usize) -> Self
         requires { ⌜ place < 8 ⌝ }
-        ensures class { λ r. ⌜ r .class ≡ getD (M·Machine .cells (now (recorder .entry))) (3 * place + 1) 0 ⌝ }
-        ensures first { λ r. ⌜ r .first ≡ getD (M·Machine .cells (now (recorder .entry))) (3 * place + 2) 0 ⌝ }
-        ensures second { λ r. ⌜ r .second ≡ getD (M·Machine .cells (now (recorder .entry))) (3 * place + 3) 0 ⌝ }
+        ensures class { λ r. ⌜ r .class ≡ getD (M·Machine .cells (now (recorder .entry) .machine)) (3 * place + 1) 0 ⌝ }
+        ensures first { λ r. ⌜ r .first ≡ getD (M·Machine .cells (now (recorder .entry) .machine)) (3 * place + 2) 0 ⌝ }
+        ensures second { λ r. ⌜ r .second ≡ getD (M·Machine .cells (now (recorder .entry) .machine)) (3 * place + 3) 0 ⌝ }
     {
         Entry {
             class: cell(recorder, 3 * place + 1),
@@ -64,11 +61,5 @@ impl Entry {
             (4, _, Ok(0)) => Some(Command::Mark { code: self.first }),
             _ => None,
         }
-    }
-}
-
-pub(crate) impl fmt::Display for Entry as EntryDisplay {
-    fn fmt<W: fmt::Write>(&self, f: &mut fmt::Formatter<W>) -> fmt::Result {
-        write!(f, "({} {} {})", self.class, self.first, self.second)
     }
 }

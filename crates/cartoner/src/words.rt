@@ -34,3 +34,16 @@ pub(crate) impl fmt::Display for InWords as InWordsDisplay {
         }
     }
 }
+
+/// A timestamp, or a dash where there is none yet.
+#[derive(Clone, Copy)]
+pub(crate) struct Stamp(pub(crate) Option<u64>);
+
+pub(crate) impl fmt::Display for Stamp as StampDisplay {
+    fn fmt<W: fmt::Write>(&self, f: &mut fmt::Formatter<W>) -> fmt::Result {
+        match self.0 {
+            Some(timestamp) => write!(f, "{timestamp}"),
+            None => write!(f, "-"),
+        }
+    }
+}

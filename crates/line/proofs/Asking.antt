@@ -30,7 +30,7 @@ open-still n last (Ok b) = refl
 open-still n last (Err e) = refl
 
 -- Only a run moves a station, and only its own.
-abbrev Mover : ℕ → Option Move → Type 0
+abbrev pub Mover : ℕ → Option Move → Type 0
 Mover m None = Unit {0}
 Mover m (Some v) = v .member ≡ m
 
@@ -41,7 +41,7 @@ run-mover m b (Err e) = tt
 still-mover : (m : ℕ) (v : Option Move) → v ≡ None → Mover m v
 still-mover m v e = subst (Mover m) (sym e) tt
 
-mover : (K : Kind) (l : Line) (c : Call) (m : ℕ) → Mover m (step K l (callAt c m) .move)
+pub mover : (K : Kind) (l : Line) (c : Call) (m : ℕ) → Mover m (step K l (callAt c m) .move)
 mover K closed (Open n last) m = still-mover m _ (open-still n last (open-closed n last))
 mover K closed (Send sender set c) m = tt
 mover K closed (Hear q k) m = tt
