@@ -9,6 +9,7 @@ ghost use Rattle.machine.specs.declared.command.Command.the-variants.{Set, Shif
 /// That a count of 2^32 - 1 is followed by 0 takes 2^32 commands to see: too many to run, so it is computed at the
 /// kinds' own definitions, which the machines are proved to follow. It changes nothing, and answers 0.
 pub fn counts_wrap() -> u8
+    ensures idle { λ r. ⌜ r ≡ 0 ⌝ }
     ensures sets { λ _. ⌜ tallyNext (4294967295 ∷ 7 ∷ 8 ∷ 9 ∷ []) (Set 0 0) ≡ 0 ∷ 7 ∷ 8 ∷ 9 ∷ [] ⌝ }
     ensures shifts { λ _. ⌜ tallyNext (6 ∷ 4294967295 ∷ 8 ∷ 9 ∷ []) (Shift 0 0) ≡ 6 ∷ 0 ∷ 8 ∷ 9 ∷ [] ⌝ }
     ensures couples { λ _. ⌜ tallyNext (6 ∷ 7 ∷ 4294967295 ∷ 9 ∷ []) (Couple 0 0) ≡ 6 ∷ 7 ∷ 0 ∷ 9 ∷ [] ⌝ }
