@@ -4,4 +4,4 @@ use Rattle.machine.specs.Entries.{moved_on}
 use Rattle.machine.proofs.recorder.moves_on.Goals as goal
 
 pub returns : goal.returns
-returns c = moved_on c.args.latest c.args.command (omega arith) c.fits-words.ensures
+returns c = moved_on c.args.latest c.args.command (omega arith) c.fits_words.ensures

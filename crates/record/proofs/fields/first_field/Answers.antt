@@ -5,10 +5,10 @@ use Rattle.record.proofs.fields.first_field.Goals as goal
 
 pub returns-in-34 : goal.returns-in-34
 returns-in-34 c =
-    let e : seen c.quoted-field.result ≡ cut_field c.args.left.now c.args.at = search rules in
-    record { answers = e; rfc = field_answer c.args.at c.args.left.now (seen c.quoted-field.result) e }
+    let e : seen c.quoted_field.result ≡ cut_field c.args.left.now c.args.at = search rules in
+    record { answers = e; rfc = field_answer c.args.at c.args.left.now (seen c.quoted_field.result) e }
 
-pub returns-in-default : goal.returns-in-default
-returns-in-default c =
-    let e : seen c.plain-field.result ≡ cut_field c.args.left.now c.args.at = search rules in
-    record { answers = e; rfc = field_answer c.args.at c.args.left.now (seen c.plain-field.result) e }
+pub returns-in_default : goal.returns-in_default
+returns-in_default c =
+    let e : seen c.plain_field.result ≡ cut_field c.args.left.now c.args.at = search rules in
+    record { answers = e; rfc = field_answer c.args.at c.args.left.now (seen c.plain_field.result) e }

@@ -12,4 +12,4 @@ loop-more-preserved c =
 
 pub returns : goal.returns
 returns c =
-    record { is = omega (arith, c.loop-more.invariant.0, inside_stop c.loop-more.rest.now c.in-default.ensures); within = omega arith }
+    record { is = omega (arith, c.loop-more.invariant.0, inside_stop c.loop-more.rest.now c.in_default.ensures); within = omega arith }

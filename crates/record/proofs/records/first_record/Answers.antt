@@ -13,29 +13,29 @@ plainly f = record { field = piece_of f.field; end = f.end; rest = f.rest.now; n
 pub loop-cut-init : goal.loop-cut-init
 loop-cut-init c = going_start c.args.left.now c.args.start (map piece_of c.args.fields.now)
 
-pub first-field-requires : goal.first-field-requires
-first-field-requires c = omega (arith, c.loop-cut.invariant.ends)
+pub first_field-requires : goal.first_field-requires
+first_field-requires c = omega (arith, c.loop-cut.invariant.ends)
 
 pub loop-cut-smaller : goal.loop-cut-smaller
 loop-cut-smaller c =
     going_less c.args.left.now c.args.start (map piece_of c.args.fields.now) c.loop-cut.rest.now c.loop-cut.at c.loop-cut.count (map piece_of c.loop-cut.fields) c.loop-cut.invariant
-    (plainly c.in-ok-cut.cut) c.in-Comma.is c.in-ok-cut.ensures.answers
+    (plainly c.in_ok-cut.cut) c.in-Comma.is c.in_ok-cut.ensures.answers
 
 pub loop-cut-preserved : goal.loop-cut-preserved
 loop-cut-preserved c =
     going_more c.args.left.now c.args.start (map piece_of c.args.fields.now) c.loop-cut.rest.now c.loop-cut.at c.loop-cut.count (map piece_of c.loop-cut.fields) c.loop-cut.invariant
-    (plainly c.in-ok-cut.cut) (map piece_of c.store.new.fields) c.in-Comma.is c.in-ok-cut.ensures.answers (stored_plainly c.loop-cut.fields c.store.new.fields c.loop-cut.count c.in-ok-cut.cut.field c.store.ensures)
+    (plainly c.in_ok-cut.cut) (map piece_of c.store.new.fields) c.in-Comma.is c.in_ok-cut.ensures.answers (stored_plainly c.loop-cut.fields c.store.new.fields c.loop-cut.count c.in_ok-cut.cut.field c.store.ensures)
 
 pub returns-in-Last : goal.returns-in-Last
 returns-in-Last c =
     let f = going_done c.args.left.now c.args.start (map piece_of c.args.fields.now) c.loop-cut.rest.now c.loop-cut.at c.loop-cut.count (map piece_of c.loop-cut.fields) c.loop-cut.invariant
-    (plainly c.in-ok-cut.cut) c.in-Last.end (map piece_of c.store.new.fields) c.in-Last.is c.in-ok-cut.ensures.answers (stored_plainly c.loop-cut.fields c.store.new.fields c.loop-cut.count c.in-ok-cut.cut.field c.store.ensures) in
+    (plainly c.in_ok-cut.cut) c.in-Last.end (map piece_of c.store.new.fields) c.in-Last.is c.in_ok-cut.ensures.answers (stored_plainly c.loop-cut.fields c.store.new.fields c.loop-cut.count c.in_ok-cut.cut.field c.store.ensures) in
     record { answers = f.answers; holds = f.holds; rfc = f.rfc; within = f.within }
 
-pub returns-in-err-cut : goal.returns-in-err-cut
-returns-in-err-cut c =
-    let p = err_from_is_err_and c.from-residual.result c.from-residual.ensures.1 in
+pub returns-in_err-cut : goal.returns-in_err-cut
+returns-in_err-cut c =
+    let p = err_from_is_err_and c.from_residual.result c.from_residual.ensures.1 in
     let fault = going_faulty c.args.left.now c.args.start (map piece_of c.args.fields.now) c.loop-cut.rest.now c.loop-cut.at c.loop-cut.count (map piece_of c.loop-cut.fields) c.loop-cut.invariant
-    c.in-err-cut.field-0.0 c.in-err-cut.ensures.answers in
+    c.in_err-cut.field-0.0 c.in_err-cut.ensures.answers in
     let f = subst (Finished c.args.left.now c.args.start (map piece_of c.args.fields.now) (map piece_of c.loop-cut.fields)) (sym (p.1 ∙ ap Err p.2)) fault in
     record { answers = f.answers; holds = f.holds; rfc = f.rfc; within = f.within }
