@@ -5,13 +5,13 @@ use Rattle.open_commands.proofs.Lists.{all_of_lem, all_not_of, all_to_more}
 use Rattle.ordering.specs.Steps.{passes}
 use Rattle.open_commands.proofs.table.all_pass.Goals as goal
 
-pub returns-then-not-lets-pass : goal.returns-then-not-lets-pass
-returns-then-not-lets-pass g c =
-    sym (all_not_of (λ o. passes g.M.Machine.kind c.args.member c.args.pair c.args.command o.number (Some (view_open o))) c.args.commands.now c.loop-other.other-index c.other-item.result (slice_get_read c.args.commands.now (length c.args.commands.now) c.loop-other.other-index c.other-item.result refl c.loop-other-test.true c.other-item.is) (sym c.if-not-lets-pass.ensures))
+pub returns-then-not-lets_pass : goal.returns-then-not-lets_pass
+returns-then-not-lets_pass g c =
+    sym (all_not_of (λ o. passes g.M.Machine.kind c.args.member c.args.pair c.args.command o.number (Some (view_open o))) c.args.commands.now c.loop-other.other-index c.other-item.result (slice_get_read c.args.commands.now (length c.args.commands.now) c.loop-other.other-index c.other-item.result refl c.loop-other-test.true c.other-item.is) (sym c.if-not-lets_pass.ensures))
 
 pub loop-other-preserved : goal.loop-other-preserved
 loop-other-preserved g c =
-    all_to_more (λ o. passes g.M.Machine.kind c.args.member c.args.pair c.args.command o.number (Some (view_open o))) c.args.commands.now c.loop-other.other-index c.other-item.result (slice_get_read c.args.commands.now (length c.args.commands.now) c.loop-other.other-index c.other-item.result refl c.loop-other-test.true c.other-item.is) (sym c.if-not-lets-pass.ensures) c.loop-other.invariant
+    all_to_more (λ o. passes g.M.Machine.kind c.args.member c.args.pair c.args.command o.number (Some (view_open o))) c.args.commands.now c.loop-other.other-index c.other-item.result (slice_get_read c.args.commands.now (length c.args.commands.now) c.loop-other.other-index c.other-item.result refl c.loop-other-test.true c.other-item.is) (sym c.if-not-lets_pass.ensures) c.loop-other.invariant
 
 pub returns : goal.returns
 returns g c =

@@ -10,15 +10,15 @@ use Rattle.runner.proofs.cells.write_cells.Goals as goal
 pub loop-member-init : goal.loop-member-init
 loop-member-init g c = member_first (fault_as TraceFull 0 c.args.end) (g.S.Stations.held c.args.stations.now) c.args.members c.args.trace.now
 
-pub returns-in-err-write-station : goal.returns-in-err-write-station
-returns-in-err-write-station g c cs =
-    let p = err_from_is_err_and c.from-residual.result c.from-residual.ensures.1 in
-    subst (Wrote (writes_all cs (fault_as TraceFull 0 c.args.end) (room_of c.args.trace.now) (cell_records (g.S.Stations.held c.args.stations.now) 0 c.args.members)) c.args.trace.now c.write-station.new.trace) (sym (p.1 ∙ ap Err p.2))
-    (station_full (fault_as TraceFull 0 c.args.end) (g.S.Stations.held c.args.stations.now) c.args.members c.args.trace.now c.loop-member.trace c.write-station.new.trace c.loop-member.member c.loop-member.invariant c.loop-member-test.true c.in-err-write-station.field-0.0 c.in-err-write-station.ensures cs)
+pub returns-in_err-write_station : goal.returns-in_err-write_station
+returns-in_err-write_station g c cs =
+    let p = err_from_is_err_and c.from_residual.result c.from_residual.ensures.1 in
+    subst (Wrote (writes_all cs (fault_as TraceFull 0 c.args.end) (room_of c.args.trace.now) (cell_records (g.S.Stations.held c.args.stations.now) 0 c.args.members)) c.args.trace.now c.write_station.new.trace) (sym (p.1 ∙ ap Err p.2))
+    (station_full (fault_as TraceFull 0 c.args.end) (g.S.Stations.held c.args.stations.now) c.args.members c.args.trace.now c.loop-member.trace c.write_station.new.trace c.loop-member.member c.loop-member.invariant c.loop-member-test.true c.in_err-write_station.field-0.0 c.in_err-write_station.ensures cs)
 
 pub loop-member-preserved : goal.loop-member-preserved
 loop-member-preserved g c =
-    station_written (fault_as TraceFull 0 c.args.end) (g.S.Stations.held c.args.stations.now) c.args.members c.args.trace.now c.loop-member.trace c.write-station.new.trace c.loop-member.member c.loop-member.invariant c.loop-member-test.true c.in-ok-write-station.ensures
+    station_written (fault_as TraceFull 0 c.args.end) (g.S.Stations.held c.args.stations.now) c.args.members c.args.trace.now c.loop-member.trace c.write_station.new.trace c.loop-member.member c.loop-member.invariant c.loop-member-test.true c.in_ok-write_station.ensures
 
 pub returns : goal.returns
 returns g c =

@@ -4,7 +4,7 @@ use Rattle.ordering.proofs.Basics.{none_some}
 use Rattle.runner.specs.Runs.{fault_as}
 use Rattle.runner.specs.Writing.{room_of}
 use Rattle.runner.proofs.CellLoops.{AtCell, at_first, read_there, cell_full, cell_written, cells_end}
-use Rattle.runner.proofs.cells.write_station.Goals.{in-Some, in-default}
+use Rattle.runner.proofs.cells.write_station.Goals.{in-Some, in_default}
 use Rattle.runner.proofs.cells.write_station.Goals as goal
 
 pub loop-i-init : goal.loop-i-init
@@ -25,7 +25,7 @@ loop-i-preserved g c =
       | in-Some w ↦
           subst (λ t. AtCell (fault_as TraceFull 0 c.args.end) c.args.member (g.S.Stations.held c.args.stations.now c.args.member) c.args.trace.now t (c.loop-i.i + 1)) (sym w.trace-is)
           (cell_written (fault_as TraceFull 0 c.args.end) c.args.member (g.S.Stations.held c.args.stations.now c.args.member) c.args.trace.now c.loop-i.trace c.loop-i.i c.loop-i.invariant lt w.in-Some.value w.cell.new.self room (let a = c.requires.near in omega arith) (let a = c.loop-i-test.true in let b = c.count-i-end.type-inv in omega arith) (search rules) (sym w.in-Some.is ∙ there) w.cell.ensures)
-      | in-default w ↦ absurd (none_some (sym w.in-default.is ∙ there))
+      | in_default w ↦ absurd (none_some (sym w.in_default.is ∙ there))
     ]
 
 pub returns : goal.returns

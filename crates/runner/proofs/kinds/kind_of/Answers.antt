@@ -5,9 +5,9 @@ use Rattle.runner.proofs.kinds.kind_of.Goals as goal
 pub loop-at-init : goal.loop-at-init
 loop-at-init c = seeking_start c.args.script.now
 
-pub returns-in-default : goal.returns-in-default
-returns-in-default c =
-    seeking_faulty c.args.script.now c.loop-at.at c.loop-at.invariant c.in-default.field-0 c.loop-at-test.true c.in-default.ensures.answers
+pub returns-in_default : goal.returns-in_default
+returns-in_default c =
+    seeking_faulty c.args.script.now c.loop-at.at c.loop-at.invariant c.in_default.field-0 c.loop-at-test.true c.in_default.ensures.answers
 
 pub returns-in-Some : goal.returns-in-Some
 returns-in-Some c =
@@ -22,7 +22,7 @@ loop-at-smaller c =
 
 pub loop-at-preserved : goal.loop-at-preserved
 loop-at-preserved c =
-    seeking_more c.args.script.now c.loop-at.at c.loop-at.invariant c.in-Ok.read c.loop-at-test.true c.in-Ok.ensures.answers c.in-default-fixed-kind.ensures c.in-Ok.ensures.ends
+    seeking_more c.args.script.now c.loop-at.at c.loop-at.invariant c.in-Ok.read c.loop-at-test.true c.in-Ok.ensures.answers c.in_default-fixed_kind.ensures c.in-Ok.ensures.ends
 
 pub returns : goal.returns
 returns c = seeking_done c.args.script.now c.loop-at.at c.loop-at.invariant c.loop-at-test.false

@@ -15,8 +15,8 @@ returns-then-script-gt-SCRIPT-LIMIT c =
 pub returns : goal.returns
 returns c =
     record {
-      outcome = reported c.kind-of.result c.args.script.now c.args.trace.now c.run-into.new.bytes c.run-into.result c.kind-of.ensures c.if-script-gt-SCRIPT-LIMIT.false c.run-into.ensures.adds c.run-into.ensures.fits c.run-into.ensures.fault;
+      outcome = reported c.kind_of.result c.args.script.now c.args.trace.now c.run_into.new.bytes c.run_into.result c.kind_of.ensures c.if-script-gt-SCRIPT-LIMIT.false c.run_into.ensures.adds c.run_into.ensures.fits c.run_into.ensures.fault;
       told = outcome_told c.args.script.now (length c.args.trace.now);
-      within = reported_within c.kind-of.result c.args.script.now c.args.trace.now c.run-into.new.bytes c.run-into.result c.run-into.ensures.adds c.run-into.ensures.fits;
+      within = reported_within c.kind_of.result c.args.script.now c.args.trace.now c.run_into.new.bytes c.run_into.result c.run_into.ensures.adds c.run_into.ensures.fits;
       ordered = made_ordered (kind_of_script c.args.script.now) (outcome c.args.script.now (length c.args.trace.now)).calls;
     }

@@ -5,9 +5,9 @@ use Rattle.script.proofs.numbers.read_digits.Goals as goal
 pub loop-b-init : goal.loop-b-init
 loop-b-init c = reading_start c.args.text.now
 
-pub returns-then-not-is-ascii-digit : goal.returns-then-not-is-ascii-digit
-returns-then-not-is-ascii-digit c =
-    stopped c.args.text.now (reading_stop c.args.text.now c.loop-b.b-index c.loop-b.number c.loop-b.invariant c.loop-b-test.true (sym c.if-not-is-ascii-digit.ensures.value))
+pub returns-then-not-is_ascii_digit : goal.returns-then-not-is_ascii_digit
+returns-then-not-is_ascii_digit c =
+    stopped c.args.text.now (reading_stop c.args.text.now c.loop-b.b-index c.loop-b.number c.loop-b.invariant c.loop-b-test.true (sym c.if-not-is_ascii_digit.ensures.value))
 
 pub overflow-mul-number : goal.overflow-mul-number
 overflow-mul-number c =
@@ -22,7 +22,7 @@ overflow-add-number c =
 pub loop-b-preserved : goal.loop-b-preserved
 loop-b-preserved c =
     subst (λ d. Reading c.args.text.now (c.loop-b.b-index + 1) (c.loop-b.number * 10 + d)) (sym c.from.ensures)
-    (reading_more c.args.text.now c.loop-b.b-index c.loop-b.number c.loop-b.invariant c.loop-b-test.true (sym c.if-not-is-ascii-digit.ensures.value))
+    (reading_more c.args.text.now c.loop-b.b-index c.loop-b.number c.loop-b.invariant c.loop-b-test.true (sym c.if-not-is_ascii_digit.ensures.value))
 
 pub returns : goal.returns
 returns c = reading_done c.args.text.now c.loop-b.b-index c.loop-b.number c.loop-b.invariant c.loop-b-test.false

@@ -5,18 +5,18 @@ use Rattle.script.specs.Steps.{Ends}
 use Rattle.script.proofs.Cutting.{miscounted, broken, read}
 use Rattle.script.proofs.records.step_at.Goals as goal
 
-pub returns-in-err-step : goal.returns-in-err-step
-returns-in-err-step c =
-    let p = err_from_is_err_and c.from-residual.result c.from-residual.ensures.1 in
+pub returns-in_err-step : goal.returns-in_err-step
+returns-in_err-step c =
+    let p = err_from_is_err_and c.from_residual.result c.from_residual.ensures.1 in
     record {
-      answers = p.1 ∙ (ap Err p.2 ∙ broken (cut_record (drop c.args.start c.args.script.now) c.args.start) c.in-Ok.cut c.args.start c.in-Ok.ensures.answers c.if-cut-eq-FIELDS.true _ _ refl c.in-Ok.ensures.holds c.in-err-step.field-0.0 c.in-err-step.ensures);
+      answers = p.1 ∙ (ap Err p.2 ∙ broken (cut_record (drop c.args.start c.args.script.now) c.args.start) c.in-Ok.cut c.args.start c.in-Ok.ensures.answers c.if-cut-eq-FIELDS.true _ _ refl c.in-Ok.ensures.holds c.in_err-step.field-0.0 c.in_err-step.ensures);
       ends = subst (Ends c.args.start (drop c.args.start c.args.script.now)) (sym p.1) tt;
     }
 
-pub returns-in-ok-step : goal.returns-in-ok-step
-returns-in-ok-step c =
+pub returns-in_ok-step : goal.returns-in_ok-step
+returns-in_ok-step c =
     record {
-      answers = read (cut_record (drop c.args.start c.args.script.now) c.args.start) c.in-Ok.cut c.args.start c.in-Ok.ensures.answers c.if-cut-eq-FIELDS.true _ _ refl c.in-Ok.ensures.holds c.in-ok-step.step c.in-ok-step.ensures;
+      answers = read (cut_record (drop c.args.start c.args.script.now) c.args.start) c.in-Ok.cut c.args.start c.in-Ok.ensures.answers c.if-cut-eq-FIELDS.true _ _ refl c.in-Ok.ensures.holds c.in_ok-step.step c.in_ok-step.ensures;
       ends = let w = c.in-Ok.ensures.within in (w.1, w.2, w.3);
     }
 

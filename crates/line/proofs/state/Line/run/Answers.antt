@@ -6,12 +6,12 @@ use Rattle.ordering.specs.declared.calls.Call.TheVariants.{Run}
 use Rattle.ordering.specs.Histories.{running}
 use Rattle.line.proofs.state.Line.run.Goals as goal
 
-pub returns-in-default : goal.returns-in-default
-returns-in-default g c =
+pub returns-in_default : goal.returns-in_default
+returns-in_default g c =
     record {
-      steps = closed_answers g.M.Machine.kind (Run c.args.station.now.member) (running c.args.station.now.member) c.args.self.now.book c.in-default.is refl;
+      steps = closed_answers g.M.Machine.kind (Run c.args.station.now.member) (running c.args.station.now.member) c.args.self.now.book c.in_default.is refl;
       kept = line_path _ _ refl refl;
-      moves = closed_moves g.M.Machine.kind c.args.self.now.book c.args.station.now.member _ c.in-default.is;
+      moves = closed_moves g.M.Machine.kind c.args.self.now.book c.args.station.now.member _ c.in_default.is;
       stays = refl;
       idle = refl;
     }
@@ -23,10 +23,10 @@ pub invariant-of-self-2 : goal.invariant-of-self-2
 invariant-of-self-2 g c =
     (run_good g.M.Machine.kind c.args.self.now.book c.in-Some.book c.in-Some.is c.args.station.now.member c.run.result c.run.new.self (carried c.args.self.now.book c.in-Some.book c.args.self.now.good c.in-Some.is) c.run.ensures, tt)
 
-pub returns-in-err-taken : goal.returns-in-err-taken
-returns-in-err-taken g c =
-    let q = err_from_is_err_and c.from-residual.result c.from-residual.ensures.1 in
-    let d = c.in-err-taken.ensures in
+pub returns-in_err-taken : goal.returns-in_err-taken
+returns-in_err-taken g c =
+    let q = err_from_is_err_and c.from_residual.result c.from_residual.ensures.1 in
+    let d = c.in_err-taken.ensures in
     rw (q.1, q.2)
     (record {
       steps = refused_answers g.M.Machine.kind c.args.self.now.book c.in-Some.book c.in-Some.is c.args.station.now.member _ c.run.new.self d;

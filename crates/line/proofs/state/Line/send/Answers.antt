@@ -7,10 +7,10 @@ use Rattle.ordering.specs.Histories.{sending}
 use Rattle.ordering.specs.Steps.{send}
 use Rattle.line.proofs.state.Line.send.Goals as goal
 
-pub returns-in-default : goal.returns-in-default
-returns-in-default g c =
+pub returns-in_default : goal.returns-in_default
+returns-in_default g c =
     record {
-      steps = closed_answers g.M.Machine.kind (Send c.args.sender c.args.set c.args.command) (sending c.args.sender c.args.set c.args.command) c.args.self.now.book c.in-default.is refl;
+      steps = closed_answers g.M.Machine.kind (Send c.args.sender c.args.set c.args.command) (sending c.args.sender c.args.set c.args.command) c.args.self.now.book c.in_default.is refl;
       kept = line_path _ _ refl refl;
     }
 

@@ -10,5 +10,5 @@ loop-q-preserved c =
 pub returns : goal.returns
 returns c = final_all (view_open c.args.self.now) c.loop-q.q c.loop-q.greatest (omega arith) c.loop-q.invariant
 
-pub returns-in-default : goal.returns-in-default
-returns-in-default c = final_stop (view_open c.args.self.now) c.loop-q.q (omega arith) (sym c.gathered.ensures ∙ c.in-default.is)
+pub returns-in_default : goal.returns-in_default
+returns-in_default c = final_stop (view_open c.args.self.now) c.loop-q.q (omega arith) (sym c.gathered.ensures ∙ c.in_default.is)

@@ -6,10 +6,10 @@ use Rattle.open_commands.proofs.parts.OpenCommand.has_run.Goals as goal
 pub returns : goal.returns
 returns c = done_all (view_open c.args.self.now) c.loop-q.q (omega arith) c.loop-q.invariant
 
-pub returns-then-not-is-done : goal.returns-then-not-is-done
-returns-then-not-is-done c =
-    done_stop (view_open c.args.self.now) c.loop-q.q (omega arith) (sym c.is-done.ensures ∙ c.if-not-is-done.true)
+pub returns-then-not-is_done : goal.returns-then-not-is_done
+returns-then-not-is_done c =
+    done_stop (view_open c.args.self.now) c.loop-q.q (omega arith) (sym c.is_done.ensures ∙ c.if-not-is_done.true)
 
 pub loop-q-preserved : goal.loop-q-preserved
 loop-q-preserved c =
-    done_more (view_open c.args.self.now) c.loop-q.q (sym c.is-done.ensures ∙ c.if-not-is-done.false) c.loop-q.invariant
+    done_more (view_open c.args.self.now) c.loop-q.q (sym c.is_done.ensures ∙ c.if-not-is_done.false) c.loop-q.invariant

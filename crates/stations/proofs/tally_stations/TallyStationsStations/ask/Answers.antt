@@ -7,9 +7,9 @@ use Rattle.stations.proofs.tally_stations.TallyStationsStations.ask.Goals as goa
 
 pub returns-then-place-lt16 : goal.returns-then-place-lt16
 returns-then-place-lt16 c =
-    asked_place (λ s. s.machine.sets ∷ s.machine.shifts ∷ s.machine.couples ∷ s.machine.marks ∷ []) (λ s. s.member) tally (view_line c.args.line.now.book) c.args.call c.args.self.now.at blank_tally c.from-place.result c.ask.new.station c.ask.result _ (omega arith) (c.args.self.now.owned c.from-place.result c.if-place-lt16.true) (c.from-place.ensures ∙ c.member-of-member.ensures) c.ask.ensures.steps
+    asked_place (λ s. s.machine.sets ∷ s.machine.shifts ∷ s.machine.couples ∷ s.machine.marks ∷ []) (λ s. s.member) tally (view_line c.args.line.now.book) c.args.call c.args.self.now.at blank_tally c.from-place.result c.ask.new.station c.ask.result _ (omega arith) (c.args.self.now.owned c.from-place.result c.if-place-lt16.true) (c.from-place.ensures ∙ c.member_of-member.ensures) c.ask.ensures.steps
 
 pub returns-else-place-lt16 : goal.returns-else-place-lt16
 returns-else-place-lt16 c =
     let far : 16 ≤ c.new-spare.result.member = subst (λ m. 16 ≤ m) (c.from-place.ensures ∙ sym c.new-spare.ensures.of) c.if-place-lt16.false in
-    asked_spare tally (view_line c.args.line.now.book) c.args.call c.new-spare.result.member _ c.ask-else-place-lt16.result _ _ _ far (c.new-spare.ensures.of ∙ c.member-of-member.ensures) c.ask-else-place-lt16.ensures.steps
+    asked_spare tally (view_line c.args.line.now.book) c.args.call c.new-spare.result.member _ c.ask-else-place-lt16.result _ _ _ far (c.new-spare.ensures.of ∙ c.member_of-member.ensures) c.ask-else-place-lt16.ensures.steps
