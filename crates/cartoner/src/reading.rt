@@ -9,7 +9,7 @@ use machine::kind::Machine;
 
 /// The cell of the station at `i`, or 0 past the last.
 pub(crate) fn cell<M: Machine>(station: &Station<M>, i: usize) -> u32
-    ensures { result ≡ slice_index (M.Machine.cells station.now.machine) i }
+    ensures { result ≡ slice_index (M.cells station.now.machine) i }
 {
     station.read(i).unwrap_or(0)
 }
@@ -26,9 +26,9 @@ impl Entry {
     /// What a recorder keeps at `place`, the newest at 0.
     pub(crate) fn at<M: Machine>(recorder: &Station<M>, place: usize) -> Self
         requires { place < 8 }
-        ensures class { result.class ≡ slice_index (M.Machine.cells recorder.now.machine) (3 * place + 1) }
-        ensures first { result.first ≡ slice_index (M.Machine.cells recorder.now.machine) (3 * place + 2) }
-        ensures second { result.second ≡ slice_index (M.Machine.cells recorder.now.machine) (3 * place + 3) }
+        ensures class { result.class ≡ slice_index (M.cells recorder.now.machine) (3 * place + 1) }
+        ensures first { result.first ≡ slice_index (M.cells recorder.now.machine) (3 * place + 2) }
+        ensures second { result.second ≡ slice_index (M.cells recorder.now.machine) (3 * place + 3) }
     {
         Entry {
             class: cell(recorder, 3 * place + 1),

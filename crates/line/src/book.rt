@@ -130,7 +130,7 @@ impl Book {
 
     pub(crate) fn hear<M: Machine>(&mut self, member: u8, number: u64) -> Result<u64, Refusal>
         requires { Good self.old }
-        ensures { Does (hear M.Machine.kind (view_book self.old) member number) self.old result self.new }
+        ensures { Does (hear M.kind (view_book self.old) member number) self.old result self.new }
     {
         let place = self.reach(member, number)?;
         let member = usize::from(member);
@@ -172,7 +172,7 @@ impl Book {
     fn earliest<M: Machine>(&self, member: usize) -> Option<Candidate>
         requires member_bound { member < 16 }
         requires good { Good self.now }
-        ensures best { BestTo M.Machine.kind member (live self.now) self.now.used result }
+        ensures best { BestTo M.kind member (live self.now) self.now.used result }
         ensures within { PlaceBelow self.now.used result }
     {
         earliest_ready::<M>(&self.commands[0..self.used], member)
@@ -191,7 +191,7 @@ impl Book {
 
     pub(crate) fn run<M: Machine>(&mut self, member: u8) -> Result<Taken, Refusal>
         requires { Good self.old }
-        ensures { Runs (run M.Machine.kind (view_book self.old) member) self.old result self.new }
+        ensures { Runs (run M.kind (view_book self.old) member) self.old result self.new }
     {
         if member >= self.members {
             return Err(Refusal::NoMember);

@@ -8,7 +8,7 @@ use machine::kind::Machine;
 
 /// Whether a remembered command conflicts with the command.
 fn conflicts<M: Machine>(remembered: &[Remembered], command: Command) -> bool
-    ensures { result ≡ any_clash M.Machine.kind command remembered.now }
+    ensures { result ≡ any_clash M.kind command remembered.now }
 {
     for held in remembered {
         if M::conflict(held.command, command) {
@@ -49,7 +49,7 @@ impl Member {
     /// Whether the clock has to rise before the command is heard: the memory is full, or a remembered command conflicts.
     fn rises<M: Machine>(&self, command: Command) -> bool
         requires { self.now.kept ≤ 16 }
-        ensures { result ≡ rises_in M.Machine.kind self.now command }
+        ensures { result ≡ rises_in M.kind self.now command }
     {
         self.kept >= MEMORY || conflicts::<M>(&self.remembered[0..self.kept], command)
     }
@@ -84,7 +84,7 @@ impl Member {
     pub(crate) fn proposal<M: Machine>(&self, command: Command) -> u64
         requires kept_bound { self.now.kept ≤ 16 }
         requires clock_bound { self.now.clock + 1 < 2 ^ 64 }
-        ensures { result ≡ proposal_in M.Machine.kind self.now command }
+        ensures { result ≡ proposal_in M.kind self.now command }
     {
         if self.rises::<M>(command) {
             self.clock + 1

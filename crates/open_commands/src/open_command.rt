@@ -153,7 +153,7 @@ impl OpenCommand {
         command: Command,
     ) -> bool
         requires { member < 16 }
-        ensures { result ≡ passes M.Machine.kind member pair command self.now.number (Some (view_open self.now)) }
+        ensures { result ≡ passes M.kind member pair command self.now.number (Some (view_open self.now)) }
     {
         if self.number == pair.1 {
             return true;

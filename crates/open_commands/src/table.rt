@@ -27,7 +27,7 @@ fn all_pass<M: Machine>(
     command: Command,
 ) -> bool
     requires { member < 16 }
-    ensures { result ≡ all_pass M.Machine.kind member pair command commands.now }
+    ensures { result ≡ all_pass M.kind member pair command commands.now }
 {
     for other in commands {
         if !other.lets_pass::<M>(member, pair, command) {
@@ -63,7 +63,7 @@ fn better<M: Machine>(
 ) -> Option<Candidate>
     requires member_bound { member < 16 }
     requires place_in_bounds { place < length commands.now }
-    ensures { BestTo M.Machine.kind member commands.now place best → BestTo M.Machine.kind member commands.now (place + 1) result }
+    ensures { BestTo M.kind member commands.now place best → BestTo M.kind member commands.now (place + 1) result }
 {
     let command = &commands[place];
     let Some(timestamp) = command.settled(member) else {
@@ -82,7 +82,7 @@ fn better<M: Machine>(
 /// The earliest ready command at a member that a line can have.
 fn earliest_at<M: Machine>(commands: &[OpenCommand], member: usize) -> Option<Candidate>
     requires { member < 16 }
-    ensures { BestTo M.Machine.kind member commands.now (length commands.now) result }
+    ensures { BestTo M.kind member commands.now (length commands.now) result }
 {
     let mut best = None;
     for place in 0..commands.len() {
@@ -93,7 +93,7 @@ fn earliest_at<M: Machine>(commands: &[OpenCommand], member: usize) -> Option<Ca
 
 /// The earliest ready command at the member, and none past the last member that a line can have.
 pub fn earliest_ready<M: Machine>(commands: &[OpenCommand], member: usize) -> Option<Candidate>
-    ensures { EarliestAt M.Machine.kind member commands.now result }
+    ensures { EarliestAt M.kind member commands.now result }
 {
     if member >= MEMBERS {
         return None;

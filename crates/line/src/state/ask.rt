@@ -66,7 +66,7 @@ fn ran(res: Result<(u64, u64), Refusal>) -> Answer
 impl<M: Machine> Line<M> {
     /// Makes the call; a run is for the station given, which no other call touches.
     fn make(&mut self, call: Call, station: &mut Station<M>) -> Answer
-        ensures steps { Asked M.Machine.kind (view_line self.old.book) (call_at call station.old.member) (cells station.old.machine) result (view_line self.new.book) (cells station.new.machine) }
+        ensures steps { Asked M.kind (view_line self.old.book) (call_at call station.old.member) (M.cells station.old.machine) result (view_line self.new.book) (M.cells station.new.machine) }
         ensures stays { station.new.member ≡ station.old.member }
         ensures kept { KeptAs result self.old self.new }
         ensures idle { KeptAs result station.old station.new }
@@ -88,11 +88,11 @@ impl<M: Machine> Line<M> {
     /// Makes the call; a run is for the station given, which no other call touches. Whatever calls have led a new line
     /// and this member's fresh station here, this call leads them on, and the ordering theorem holds of all of them.
     pub fn ask(&mut self, call: Call, station: &mut Station<M>) -> Answer
-        ensures steps { Asked M.Machine.kind (view_line self.old.book) (call_at call station.old.member) (cells station.old.machine) result (view_line self.new.book) (cells station.new.machine) }
+        ensures steps { Asked M.kind (view_line self.old.book) (call_at call station.old.member) (M.cells station.old.machine) result (view_line self.new.book) (M.cells station.new.machine) }
         ensures stays { station.new.member ≡ station.old.member }
         ensures kept { KeptAs result self.old self.new }
         ensures idle { KeptAs result station.old station.new }
-        ensures ordered { (cs : List Call) → Leads M.Machine.kind cs (view_line self.old.book) station.old.member (cells station.old.machine) → LeadsOn M.Machine.kind (call_at call station.old.member) cs (view_line self.new.book) station.old.member (cells station.new.machine) result }
+        ensures ordered { (cs : List Call) → Leads M.kind cs (view_line self.old.book) station.old.member (M.cells station.old.machine) → LeadsOn M.kind (call_at call station.old.member) cs (view_line self.new.book) station.old.member (M.cells station.new.machine) result }
     {
         self.make(call, station)
     }

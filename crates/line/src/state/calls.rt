@@ -20,7 +20,7 @@ impl<M: Machine> Line<M> {
     /// A closed line.
     pub fn new() -> Line<M>
         ensures closed { view_line result.book ≡ closed }
-        ensures leads { (after M.Machine.kind []).line ≡ view_line result.book }
+        ensures leads { (after M.kind []).line ≡ view_line result.book }
     {
         Line {
             book: None,
@@ -40,7 +40,7 @@ impl<M: Machine> Line<M> {
 
     /// Opens the line for `members` members, 1 to 16, and issue numbers up to `last`, 1 to 2^48.
     pub fn open(&mut self, members: u8, last: u64) -> Result<(), Refusal>
-        ensures steps { Answers M.Machine.kind (view_line self.old.book) (Open members last) (opening members last result) (view_line self.new.book) }
+        ensures steps { Answers M.kind (view_line self.old.book) (Open members last) (opening members last result) (view_line self.new.book) }
         ensures kept { KeptIf result self.old self.new }
     {
         if self.book.is_some() {
@@ -52,7 +52,7 @@ impl<M: Machine> Line<M> {
 
     /// Sends the command to the members of the set; answers its issue number.
     pub fn send(&mut self, sender: u8, set: u16, command: Command) -> Result<u64, Refusal>
-        ensures steps { Answers M.Machine.kind (view_line self.old.book) (Send sender set command) (sending sender set command result) (view_line self.new.book) }
+        ensures steps { Answers M.kind (view_line self.old.book) (Send sender set command) (sending sender set command result) (view_line self.new.book) }
         ensures kept { KeptIf result self.old self.new }
     {
         let Some(book) = &mut self.book else {
@@ -63,7 +63,7 @@ impl<M: Machine> Line<M> {
 
     /// Hears the command at the member; answers the proposal.
     pub fn hear(&mut self, member: u8, number: u64) -> Result<u64, Refusal>
-        ensures steps { Answers M.Machine.kind (view_line self.old.book) (Hear member number) (hearing member number result) (view_line self.new.book) }
+        ensures steps { Answers M.kind (view_line self.old.book) (Hear member number) (hearing member number result) (view_line self.new.book) }
         ensures kept { KeptIf result self.old self.new }
     {
         let Some(book) = &mut self.book else {
@@ -74,7 +74,7 @@ impl<M: Machine> Line<M> {
 
     /// Gathers the member's proposal; the last gather of a command answers its final timestamp.
     pub fn gather(&mut self, member: u8, number: u64) -> Result<Option<u64>, Refusal>
-        ensures steps { Answers M.Machine.kind (view_line self.old.book) (Gather member number) (gathering member number result) (view_line self.new.book) }
+        ensures steps { Answers M.kind (view_line self.old.book) (Gather member number) (gathering member number result) (view_line self.new.book) }
         ensures kept { KeptIf result self.old self.new }
     {
         let Some(book) = &mut self.book else {
@@ -85,7 +85,7 @@ impl<M: Machine> Line<M> {
 
     /// Settles the command at the member with its final timestamp; answers the clock afterwards.
     pub fn settle(&mut self, member: u8, number: u64) -> Result<u64, Refusal>
-        ensures steps { Answers M.Machine.kind (view_line self.old.book) (Settle member number) (settling member number result) (view_line self.new.book) }
+        ensures steps { Answers M.kind (view_line self.old.book) (Settle member number) (settling member number result) (view_line self.new.book) }
         ensures kept { KeptIf result self.old self.new }
     {
         let Some(book) = &mut self.book else {
@@ -97,9 +97,9 @@ impl<M: Machine> Line<M> {
     /// Runs the earliest ready command of the station's member on its machine; answers its final timestamp and issue
     /// number.
     pub fn run(&mut self, station: &mut Station<M>) -> Result<(u64, u64), Refusal>
-        ensures steps { Answers M.Machine.kind (view_line self.old.book) (Run station.old.member) (running station.old.member result) (view_line self.new.book) }
+        ensures steps { Answers M.kind (view_line self.old.book) (Run station.old.member) (running station.old.member result) (view_line self.new.book) }
         ensures kept { KeptIf result self.old self.new }
-        ensures moves { cells station.new.machine ≡ cells_after M.Machine.kind (step M.Machine.kind (view_line self.old.book) (Run station.old.member)).move (cells station.old.machine) }
+        ensures moves { M.cells station.new.machine ≡ cells_after M.kind (step M.kind (view_line self.old.book) (Run station.old.member)).move (M.cells station.old.machine) }
         ensures stays { station.new.member ≡ station.old.member }
         ensures idle { KeptIf result station.old station.new }
     {
@@ -116,8 +116,8 @@ impl<M: Machine> Station<M> {
     /// The member's station, with a freshly started machine.
     pub fn new(member: u8) -> Station<M>
         ensures of { result.member ≡ member }
-        ensures started { cells result.machine ≡ M.Machine.kind.starting }
-        ensures leads { (after M.Machine.kind []).cells member ≡ cells result.machine }
+        ensures started { M.cells result.machine ≡ M.kind.starting }
+        ensures leads { (after M.kind []).cells member ≡ M.cells result.machine }
     {
         Station {
             member,
@@ -134,7 +134,7 @@ impl<M: Machine> Station<M> {
 
     /// The cell at `i`, or none past the last.
     pub fn read(&self, i: usize) -> Option<u32>
-        ensures { result ≡ slice_get (cells self.now.machine) i }
+        ensures { result ≡ slice_get (M.cells self.now.machine) i }
     {
         self.machine.read(i)
     }

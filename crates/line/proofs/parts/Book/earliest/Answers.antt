@@ -10,5 +10,5 @@ returns g c =
     let h : BestTo g.M.Machine.kind c.args.member (live c.args.self.now) c.args.self.now.used c.earliest_ready.result = search rules in
     record {
       best = h;
-      within = subst (λ n. PlaceBelow n c.earliest_ready.result) (live_length c.args.self.now c.requires.1.fits) (best_within g.M.Machine.kind c.args.member (live c.args.self.now) c.args.self.now.used c.earliest_ready.result h);
+      within = subst (λ n. PlaceBelow n c.earliest_ready.result) (live_length c.args.self.now c.requires.good.fits) (best_within g.M.Machine.kind c.args.member (live c.args.self.now) c.args.self.now.used c.earliest_ready.result h);
     }

@@ -15,7 +15,8 @@ pub release-requires : goal.release-requires
 release-requires g c =
     let inside : c.from-member.result < c.args.self.now.members = subst (λ n. n < c.args.self.now.members) (sym c.from-member.ensures) c.if-member-self.false in
     let best = c.in-Some.ensures.best in
-    run_fits g.M.Machine.kind c.args.self.now c.requires c.from-member.result inside c.in-Some.candidate best c.put_phase.new.self (c.put_phase.ensures best.0 (place_at g.M.Machine.kind c.args.self.now c.requires c.from-member.result inside c.in-Some.candidate best))
+    let f = run_fits g.M.Machine.kind c.args.self.now c.requires c.from-member.result inside c.in-Some.candidate best c.put_phase.new.self (c.put_phase.ensures best.0 (place_at g.M.Machine.kind c.args.self.now c.requires c.from-member.result inside c.in-Some.candidate best)) in
+    record { place_lt_used = f.0; fits = f.1 }
 
 pub returns : goal.returns
 returns g c =

@@ -16,7 +16,8 @@ returns-in_err-phase c =
 pub settle-requires : goal.settle-requires
 settle-requires c =
     let r = at_of c.args.self.now c.args.member c.args.number c.in_ok-place.place c.in_ok-place.ensures in
-    settle_fits c.args.self.now c.requires c.args.member c.args.number c.in_ok-place.place r c.in_ok-phase.phase c.from-member.result c.put_phase.new.self c.from-member.ensures (c.put_phase.ensures r.p (at_place c.args.self.now c.requires c.args.member c.args.number c.in_ok-place.place r))
+    let f = settle_fits c.args.self.now c.requires c.args.member c.args.number c.in_ok-place.place r c.in_ok-phase.phase c.from-member.result c.put_phase.new.self c.from-member.ensures (c.put_phase.ensures r.p (at_place c.args.self.now c.requires c.args.member c.args.number c.in_ok-place.place r)) in
+    record { clock_bound = f.0; kept_bound = f.1 }
 
 pub returns : goal.returns
 returns c =

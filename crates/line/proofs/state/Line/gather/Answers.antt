@@ -17,9 +17,9 @@ returns-in_default g c =
 pub gather-requires : goal.gather-requires
 gather-requires g c = carried c.args.self.now.book c.in-Some.book c.args.self.now.good c.in-Some.is
 
-pub invariant-of-self-2 : goal.invariant-of-self-2
-invariant-of-self-2 g c =
-    (open_good g.M.Machine.kind (Gather c.args.member c.args.number) (gathering c.args.member c.args.number) c.args.self.now.book c.in-Some.book c.in-Some.is (gather (view_book c.in-Some.book) c.args.member c.args.number) refl c.gather.result c.gather.new.self (carried c.args.self.now.book c.in-Some.book c.args.self.now.good c.in-Some.is) c.gather.ensures, tt)
+pub invariant_of-self-2 : goal.invariant_of-self-2
+invariant_of-self-2 g c =
+    record { good = open_good g.M.Machine.kind (Gather c.args.member c.args.number) (gathering c.args.member c.args.number) c.args.self.now.book c.in-Some.book c.in-Some.is (gather (view_book c.in-Some.book) c.args.member c.args.number) refl c.gather.result c.gather.new.self (carried c.args.self.now.book c.in-Some.book c.args.self.now.good c.in-Some.is) c.gather.ensures }
 
 pub returns : goal.returns
 returns g c =

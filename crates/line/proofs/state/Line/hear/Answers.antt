@@ -17,9 +17,9 @@ returns-in_default g c =
 pub hear-requires : goal.hear-requires
 hear-requires g c = carried c.args.self.now.book c.in-Some.book c.args.self.now.good c.in-Some.is
 
-pub invariant-of-self-2 : goal.invariant-of-self-2
-invariant-of-self-2 g c =
-    (open_good g.M.Machine.kind (Hear c.args.member c.args.number) (hearing c.args.member c.args.number) c.args.self.now.book c.in-Some.book c.in-Some.is (hear g.M.Machine.kind (view_book c.in-Some.book) c.args.member c.args.number) refl c.hear.result c.hear.new.self (carried c.args.self.now.book c.in-Some.book c.args.self.now.good c.in-Some.is) c.hear.ensures, tt)
+pub invariant_of-self-2 : goal.invariant_of-self-2
+invariant_of-self-2 g c =
+    record { good = open_good g.M.Machine.kind (Hear c.args.member c.args.number) (hearing c.args.member c.args.number) c.args.self.now.book c.in-Some.book c.in-Some.is (hear g.M.Machine.kind (view_book c.in-Some.book) c.args.member c.args.number) refl c.hear.result c.hear.new.self (carried c.args.self.now.book c.in-Some.book c.args.self.now.good c.in-Some.is) c.hear.ensures }
 
 pub returns : goal.returns
 returns g c =

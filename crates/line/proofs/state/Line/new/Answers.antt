@@ -1,4 +1,4 @@
 use Rattle.line.proofs.state.Line.new.Goals as goal
 
-pub invariant-of-result : goal.invariant-of-result
-invariant-of-result g c = (∣ tt ∣₁, tt)
+pub invariant_of-result : goal.invariant_of-result
+invariant_of-result g c = record { good = ∣ tt ∣₁ }

@@ -1,4 +1,4 @@
 use Rattle.line.proofs.state.Line.open.Goals as goal
 
-pub invariant-of-self : goal.invariant-of-self
-invariant-of-self g c = (∣ c.in_ok-new.ensures.1 ∣₁, tt)
+pub invariant_of-self : goal.invariant_of-self
+invariant_of-self g c = record { good = ∣ c.in_ok-new.ensures.1 ∣₁ }

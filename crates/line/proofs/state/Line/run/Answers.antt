@@ -19,9 +19,9 @@ returns-in_default g c =
 pub run-requires : goal.run-requires
 run-requires g c = carried c.args.self.now.book c.in-Some.book c.args.self.now.good c.in-Some.is
 
-pub invariant-of-self-2 : goal.invariant-of-self-2
-invariant-of-self-2 g c =
-    (run_good g.M.Machine.kind c.args.self.now.book c.in-Some.book c.in-Some.is c.args.station.now.member c.run.result c.run.new.self (carried c.args.self.now.book c.in-Some.book c.args.self.now.good c.in-Some.is) c.run.ensures, tt)
+pub invariant_of-self-2 : goal.invariant_of-self-2
+invariant_of-self-2 g c =
+    record { good = run_good g.M.Machine.kind c.args.self.now.book c.in-Some.book c.in-Some.is c.args.station.now.member c.run.result c.run.new.self (carried c.args.self.now.book c.in-Some.book c.args.self.now.good c.in-Some.is) c.run.ensures }
 
 pub returns-in_err-taken : goal.returns-in_err-taken
 returns-in_err-taken g c =

@@ -17,9 +17,9 @@ returns-in_default g c =
 pub send-requires : goal.send-requires
 send-requires g c = carried c.args.self.now.book c.in-Some.book c.args.self.now.good c.in-Some.is
 
-pub invariant-of-self-2 : goal.invariant-of-self-2
-invariant-of-self-2 g c =
-    (open_good g.M.Machine.kind (Send c.args.sender c.args.set c.args.command) (sending c.args.sender c.args.set c.args.command) c.args.self.now.book c.in-Some.book c.in-Some.is (send (view_book c.in-Some.book) c.args.sender c.args.set c.args.command) refl c.send.result c.send.new.self (carried c.args.self.now.book c.in-Some.book c.args.self.now.good c.in-Some.is) c.send.ensures, tt)
+pub invariant_of-self-2 : goal.invariant_of-self-2
+invariant_of-self-2 g c =
+    record { good = open_good g.M.Machine.kind (Send c.args.sender c.args.set c.args.command) (sending c.args.sender c.args.set c.args.command) c.args.self.now.book c.in-Some.book c.in-Some.is (send (view_book c.in-Some.book) c.args.sender c.args.set c.args.command) refl c.send.result c.send.new.self (carried c.args.self.now.book c.in-Some.book c.args.self.now.good c.in-Some.is) c.send.ensures }
 
 pub returns : goal.returns
 returns g c =
