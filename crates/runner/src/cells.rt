@@ -20,8 +20,8 @@ fn write_station<S: Stations>(
     trace: &mut Trace<'_>,
 ) -> Result<(), Fault>
     requires near { member < 16 }
-    requires counted { length (held stations.now member) ≡ Kind-as-Machine.kind.count }
-    ensures { WroteRecords (fault_as TraceFull 0 end) (station_records member 0 (held stations.now member)) trace.old trace.new result }
+    requires counted { length (S.held stations.now member) ≡ S.Kind.kind.count }
+    ensures { WroteRecords (fault_as TraceFull 0 end) (station_records member 0 (S.held stations.now member)) trace.old trace.new result }
 {
     for i in 0..S::Kind::count() {
         if trace.room() < RECORD_ROOM {
@@ -46,8 +46,8 @@ pub(crate) fn write_cells<S: Stations>(
     trace: &mut Trace<'_>,
 ) -> Result<(), Fault>
     requires few { members ≤ 16 }
-    requires counted { (m : ℕ) → m < 16 → length (held stations.now m) ≡ Kind-as-Machine.kind.count }
-    ensures { (cs : List Call) → Wrote (writes_all cs (fault_as TraceFull 0 end) (room_of trace.old) (cell_records (held stations.now) 0 members)) trace.old trace.new result }
+    requires counted { (m : ℕ) → m < 16 → length (S.held stations.now m) ≡ S.Kind.kind.count }
+    ensures { (cs : List Call) → Wrote (writes_all cs (fault_as TraceFull 0 end) (room_of trace.old) (cell_records (S.held stations.now) 0 members)) trace.old trace.new result }
 {
     for member in 0..members {
         write_station(stations, member, end, trace)?;

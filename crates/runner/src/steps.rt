@@ -48,7 +48,7 @@ pub(crate) fn run_steps<S: Stations + Drop>(
     trace: &mut Trace<'_>,
 ) -> Result<(), Fault>
     requires { length script.now ≤ 65536 }
-    ensures { Wrote (runs Kind-as-Machine.kind script.now (room_of trace.old)) trace.old trace.new result }
+    ensures { Wrote (runs S.Kind.kind script.now (room_of trace.old)) trace.old trace.new result }
 {
     let mut line = Line::new();
     let mut stations = S::fresh();

@@ -18,7 +18,7 @@ pub trait Stations: Sized {
 
     /// Freshly started stations.
     fn fresh() -> Self
-        ensures { (m : ℕ) → m < 16 → held result m ≡ Self.Kind.Machine.kind.starting };
+        ensures { (m : ℕ) → m < 16 → held result m ≡ Self.Kind.kind.starting };
 
     /// The cell at `i` of the member's station, or none past the last cell or the last station.
     fn read(&self, member: u8, i: usize) -> Option<u32>
@@ -26,7 +26,7 @@ pub trait Stations: Sized {
 
     /// Makes the call on the line; a run is for the station of the member that it names.
     fn ask(&mut self, line: &mut Line<Self::Kind>, call: Call) -> Answer
-        ensures { AskedAll Self.Kind.Machine.kind (view_line line.old.book) call (held self.old) result (view_line line.new.book) (held self.new) };
+        ensures { AskedAll Self.Kind.kind (view_line line.old.book) call (held self.old) result (view_line line.new.book) (held self.new) };
 }
 
 /// The member that a run names; every other call leaves the stations, and any will do.

@@ -16,7 +16,7 @@ pub struct Finished<M, S> {
 /// Makes the calls, one after the other, on a new line with fresh stations, and writes the answers of as many as there
 /// is room for. The ordering theorem holds of the calls and their answers, whatever they are.
 pub fn play<S: Stations>(calls: &[Call], answers: &mut [Answer]) -> Finished<S::Kind, S>
-    ensures { Played S.Kind.Machine.kind calls.now answers.old answers.new (view_line result.line.book) (held result.stations) }
+    ensures { Played S.Kind.kind calls.now answers.old answers.new (view_line result.line.book) (S.held result.stations) }
 {
     let mut line = Line::new();
     let mut stations = S::fresh();

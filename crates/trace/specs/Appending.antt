@@ -14,4 +14,4 @@ pub record Appended (before : List ℕ) (used : ℕ) (new after : List ℕ) (use
 -- The same of a trace, whose bytes stay the caller's.
 pub record Adds (t : Trace) (new : List ℕ) (t' : Trace) : Type 0 where
   pub text : Appended t.bytes.now t.used new t'.bytes.now t'.used
-  pub lender : t'.bytes.name ≡ t.bytes.name
+  pub lender : t'.bytes.ghost_name ≡ t.bytes.ghost_name

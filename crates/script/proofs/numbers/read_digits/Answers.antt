@@ -9,13 +9,13 @@ pub returns-then-not-is_ascii_digit : goal.returns-then-not-is_ascii_digit
 returns-then-not-is_ascii_digit c =
     stopped c.args.text.now (reading_stop c.args.text.now c.loop-b.b-index c.loop-b.number c.loop-b.invariant c.loop-b-test.true (sym c.if-not-is_ascii_digit.ensures.value))
 
-pub overflow-mul-number : goal.overflow-mul-number
-overflow-mul-number c =
+pub overflow_mul-number : goal.overflow_mul-number
+overflow_mul-number c =
     let room = reading_room c.args.text.now c.loop-b.b-index c.loop-b.number c.loop-b.invariant (let p = c.requires in let t = c.loop-b-test.true in omega arith) in
     omega arith
 
-pub overflow-add-number : goal.overflow-add-number
-overflow-add-number c =
+pub overflow_add-number : goal.overflow_add-number
+overflow_add-number c =
     let room = reading_room c.args.text.now c.loop-b.b-index c.loop-b.number c.loop-b.invariant (let p = c.requires in let t = c.loop-b-test.true in omega arith) in
     omega arith
 
