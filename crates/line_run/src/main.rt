@@ -46,7 +46,7 @@ fn read_input(rt: &HostRuntime, bytes: &mut [u8]) -> io::Result<usize>
 /// Whether a word of the command line asks what the program does.
 fn asks_for_help(rt: &HostRuntime) -> io::Result<bool> {
     for word in env::args(rt)? {
-        if word == "--help" {
+        if word.as_str() == "--help" {
             return Ok(true);
         }
     }
