@@ -1,4 +1,6 @@
 //! One carton cycle on a line of each kind of machine, for a person to read.
+#![tactic(auto)]
+
 ghost use Rattle.std.specs.Prelude.{◌<◌};
 
 mod answers;

@@ -1,4 +1,6 @@
 //! Runs each example and says whether it gives the trace that is written for it.
+#![tactic(auto)]
+
 ghost use Rattle.example_runs.specs.Differences.{FirstDifference};
 ghost use Rattle.example_runs.specs.Printed.{printed};
 ghost use Rattle.runner.specs.Scripts.{outcome};

@@ -1,5 +1,5 @@
 -- A call given as a value does what its own call does, and what it leads to is ordered.
-use Rattle.std.proofs.Common.{◌≡◌, ℕ, List, [], ◌∷◌, Some, None, Ok, Err, Option, sym, refl, ap, ◌∙◌, subst}
+use Rattle.std.proofs.Common.{◌≡◌, ℕ, List, ◌∷◌, Some, None, Ok, Err, Option, sym, refl, ap, ◌∙◌, subst}
 use Rattle.line.specs.Asking.{call_at, Asked, KeptAs, Leads, LeadsOn}
 use Rattle.line.specs.Promises.{Answers, KeptIf, cells_after}
 use Rattle.machine.specs.Kinds.{Kind, Laws}
@@ -14,7 +14,7 @@ use Rattle.ordering.specs.Histories.{Event, sending, hearing, gathering, settlin
 use Rattle.ordering.specs.Lines.{Book, Line, closed, opened}
 use Rattle.ordering.specs.Searches.{Pair}
 use Rattle.ordering.specs.Steps.{Outcome, Ran as RunResult, open_closed, send, hear, gather, settle, run}
-use Rattle.ordering.specs.Worlds.{Move, Turn, open_turn, book_turn, run_turn, step, moved, after}
+use Rattle.ordering.specs.Worlds.{Move, open_turn, book_turn, run_turn, step, moved, after}
 
 book_still : {A : Type 0} (event : Outcome A → Event) (b : Book) (x : Outcome (A × Book)) → (book_turn event b x).move ≡ None
 book_still event b (Ok r) = refl

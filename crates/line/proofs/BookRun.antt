@@ -1,8 +1,7 @@
 -- A run on the tables does what the model does: the command is marked as run, and leaves once it has run everywhere.
-use Rattle.std.proofs.Common.{◌≡◌, ℕ, zero, suc, ◌-◌, ◌<◌, ◌≤◌, Bool, true, false, cond, List, [], ◌∷◌, length, get_or, take, set, Some, None, Ok, Err, Option, sym, refl, ap, ◌∙◌, subst, ⊎_elim, arith, length-set}
+use Rattle.std.proofs.Common.{◌≡◌, ℕ, zero, suc, ◌-◌, ◌<◌, ◌≤◌, Bool, true, false, cond, List, [], ◌∷◌, length, get_or, take, Some, None, Ok, Err, sym, refl, ap, ◌∙◌, subst, ⊎_elim, arith, length-set}
 use Rattle.std.proofs.lemmas.Bool.{lt-ltb}
 use Rattle.std.specs.List.{slice_get}
-use Rattle.line.specs.declared.book.Taken.{Taken}
 use Rattle.line.specs.declared.parts.Book.{Book as Tables}
 use Rattle.open_commands.specs.declared.parts.OpenCommand.{OpenCommand as Place}
 use Rattle.open_commands.specs.declared.table.Candidate.{Candidate}
@@ -18,11 +17,10 @@ use Rattle.line.proofs.Reaching.{live_length, read_same}
 use Rattle.line.proofs.TableViews.{book_path, view_phase, view_place, fits_place, nth-set, nth_set_same, mapped-put}
 use Rattle.machine.specs.Kinds.{Kind}
 use Rattle.ordering.proofs.Accepted.{run_ok}
-use Rattle.ordering.proofs.Basics.{some_inj, none_some}
 use Rattle.ordering.proofs.SoundSteps.{sound_run}
 use Rattle.ordering.specs.declared.calls.Phase.TheVariants.{Run}
 use Rattle.ordering.specs.declared.calls.Refusal.TheVariants.{NoMember, NothingReady}
-use Rattle.ordering.specs.Lines.{OpenCommand, Book, everywhere, is_run}
+use Rattle.ordering.specs.Lines.{everywhere, is_run}
 use Rattle.ordering.specs.Searches.{put, earliest_below}
 use Rattle.ordering.specs.Steps.{demand, Ran, run, run_earliest, run_taken, ready_at, left, with_command, with_phase}
 

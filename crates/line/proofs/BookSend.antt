@@ -1,5 +1,5 @@
 -- A send on the tables does what the model does: the new command lies behind the others.
-use Rattle.std.proofs.Common.{◌≡◌, ℕ, suc, ◌+◌, ◌^◌, ◌<◌, ◌≤◌, Bool, true, false, cond, ◌&&◌, ltb, List, [], ◌∷◌, ◌++◌, length, get_or, take, set, replicate, Some, None, Ok, Err, Option, sym, refl, ap, ◌∙◌, subst, ⊎_elim, add-one, arith, length-set}
+use Rattle.std.proofs.Common.{◌≡◌, ℕ, suc, ◌+◌, ◌<◌, ◌≤◌, true, ltb, [], ◌∷◌, ◌++◌, length, set, replicate, Some, None, Ok, Err, Option, sym, refl, ap, ◌∙◌, subst, ⊎_elim, add-one, arith, length-set}
 use Rattle.std.proofs.lemmas.List.{take_more_set, get_or-replicate, length-replicate, get_or_past}
 use Rattle.std.proofs.lemmas.Bool.{lt-ltb, le-ltb, cases_lt}
 use Rattle.std.specs.List.{slice_get}
@@ -7,11 +7,11 @@ use Rattle.open_commands.specs.declared.parts.Address.{Address}
 use Rattle.line.specs.declared.parts.Book.{Book as Tables}
 use Rattle.open_commands.specs.declared.parts.OpenCommand.{OpenCommand as Place}
 use Rattle.open_commands.specs.Lists.{lookup_by, mapped, apart}
-use Rattle.open_commands.specs.Views.{number_of, unsent, phase_in, view_open, new_place}
+use Rattle.open_commands.specs.Views.{number_of, unsent, view_open, new_place}
 use Rattle.line.specs.Books.{live, view_table, view_book, Fits, Good}
 use Rattle.line.specs.Calls.{Does}
 use Rattle.open_commands.specs.Places.{AddressMade}
-use Rattle.open_commands.proofs.Keyed.{lookup_place, lookup_own, lookup_push, apart_push, count_keys}
+use Rattle.open_commands.proofs.Keyed.{lookup_place, lookup_push, apart_push, count_keys}
 use Rattle.line.proofs.Reaching.{live_length}
 use Rattle.line.proofs.Running.{numbered}
 use Rattle.line.proofs.SeatViews.{count_same, mapped-present}
@@ -19,11 +19,9 @@ use Rattle.line.proofs.TableViews.{open_path, book_path, nth-set, mapped-put}
 use Rattle.machine.specs.AxisBanks.{axis_bank}
 use Rattle.machine.specs.declared.command.Command.{Command}
 use Rattle.ordering.proofs.Accepted.{send_ok}
-use Rattle.ordering.proofs.Basics.{some_inj, none_some}
 use Rattle.ordering.proofs.SoundSteps.{sound_send}
-use Rattle.ordering.specs.declared.calls.Phase.TheVariants.{Sent}
 use Rattle.ordering.specs.declared.calls.Refusal.TheVariants.{NoMember, BadSet, NumbersUsedUp, TableFull}
-use Rattle.ordering.specs.Lines.{OpenCommand, Book, open_count}
+use Rattle.ordering.specs.Lines.{Book, open_count}
 use Rattle.ordering.specs.Searches.{put, present}
 use Rattle.ordering.specs.Steps.{Outcome, demand, lawful_set, new_command, issue, send}
 

@@ -1,5 +1,5 @@
 -- A hear, a gather and a settle on the tables do what the model does.
-use Rattle.std.proofs.Common.{◌≡◌, ℕ, zero, suc, ◌+◌, ◌*◌, ◌^◌, ◌<◌, ◌≤◌, Bool, true, false, cond, ◌≢◌, List, [], ◌∷◌, length, get_or, take, set, Some, None, Ok, Err, Option, sym, refl, ap, ◌∙◌, subst, ⊎_elim, arith, length-set}
+use Rattle.std.proofs.Common.{◌≡◌, ℕ, zero, suc, ◌<◌, ◌≤◌, List, [], ◌∷◌, length, get_or, take, Some, None, Ok, Err, Option, sym, refl, ap, ◌∙◌, subst, arith, length-set}
 use Rattle.std.specs.List.{slice_get}
 use Rattle.line.specs.declared.parts.Book.{Book as Tables}
 use Rattle.line.specs.declared.parts.Member.{Member as Seat}
@@ -15,17 +15,16 @@ use Rattle.line.proofs.Reaching.{read_same}
 use Rattle.line.proofs.SeatSteps.{Shows, Hears, hear_seat, hear_clock, settle_seat}
 use Rattle.line.proofs.SeatViews.{Known}
 use Rattle.line.proofs.TableViews.{book_path, view_phase, view_place, fits_place, view_seat, fits_seat}
-use Rattle.machine.specs.declared.command.Command.{Command}
 use Rattle.machine.specs.Kinds.{Kind}
 use Rattle.ordering.proofs.Accepted.{reach_ok, hear_ok, gather_ok, settle_ok}
-use Rattle.ordering.proofs.Basics.{some_inj, none_some, ok_inj, err_ok, absent_none}
+use Rattle.ordering.proofs.Basics.{none_some, ok_inj, err_ok, absent_none}
 use Rattle.ordering.proofs.SoundSteps.{sound_hear, sound_gather, sound_settle}
 use Rattle.ordering.specs.declared.calls.Phase.{Phase}
 use Rattle.ordering.specs.declared.calls.Phase.TheVariants.{Sent, Heard, Gathered, Settled, Run}
 use Rattle.ordering.specs.declared.calls.Refusal.{Refusal}
 use Rattle.ordering.specs.Lines.{OpenCommand, Member, Book}
-use Rattle.ordering.specs.Searches.{put, names}
-use Rattle.ordering.specs.Steps.{Outcome, reach, hear, hear_at, hear_in as hear_by_phase, hearer, heard_now, gather, gather_at, gather_in, gathered_now, final_of, settle, settle_at, settle_in as settle_by_phase, settler, settled_now, with_command, with_member, with_phase, with_fixed}
+use Rattle.ordering.specs.Searches.{put}
+use Rattle.ordering.specs.Steps.{Outcome, reach, hear, hear_at, hear_in as hear_by_phase, hearer, gather, gather_at, gather_in, gathered_now, final_of, settle, settle_at, settle_in as settle_by_phase, settler, settled_now, with_command, with_member, with_phase, with_fixed}
 
 err_inj : {A : Type 0} {e f : Refusal} → ◌≡◌ {A = Outcome A} (Err e) (Err f) → e ≡ f
 err_inj h = cc

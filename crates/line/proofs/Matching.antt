@@ -1,5 +1,5 @@
 -- What a function of the tables read before it wrote, in the words of its place.
-use Rattle.std.proofs.Common.{◌≡◌, ℕ, ◌+◌, ◌*◌, ◌^◌, ◌<◌, ◌≤◌, length, get_or, set, Some, None, Ok, Err, Option, sym, refl, ap, ◌∙◌, subst, arith, get_or-set_same}
+use Rattle.std.proofs.Common.{◌≡◌, ℕ, ◌+◌, ◌*◌, ◌^◌, ◌<◌, ◌≤◌, length, get_or, set, Some, Ok, Option, sym, ap, ◌∙◌, subst, arith, get_or-set_same}
 use Rattle.line.specs.declared.parts.Book.{Book as Tables}
 use Rattle.line.specs.declared.parts.Member.{Member as Seat}
 use Rattle.open_commands.specs.declared.parts.OpenCommand.{OpenCommand as Place}
@@ -10,7 +10,7 @@ use Rattle.open_commands.specs.Phases.{next_phase}
 use Rattle.line.specs.Calls.{Does}
 use Rattle.open_commands.specs.Views.{phase_in, view_open, with_phase_in, with_fixed_in}
 use Rattle.line.specs.Views.{proposal_in, lift_in, hear_in, settle_in}
-use Rattle.line.proofs.BookSteps.{At, read, hear_room, hear_done, gather_done, fixed_at, settle_done, at_place, seat_fits, inside}
+use Rattle.line.proofs.BookSteps.{At, read, hear_room, hear_done, gather_done, settle_done, at_place, seat_fits, inside}
 use Rattle.machine.specs.declared.command.Command.{Command}
 use Rattle.machine.specs.Kinds.{Kind}
 use Rattle.line.proofs.TableViews.{nth_set_same, set_twice}

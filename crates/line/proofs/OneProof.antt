@@ -1,6 +1,6 @@
 -- What a line carries in its type has one proof at most, so that a call may take it out again.
-use Rattle.std.proofs.Common.{◌≡◌, ℕ, ◌<◌, ◌≤◌, Bool, true, false, Some, None, Option}
-use mathlib.Core.HLevel.{Π_prop, ×_prop, Unit-prop}
+use Rattle.std.proofs.Common.{◌≡◌, ℕ, ◌≤◌, Bool, Some, None, Option}
+use mathlib.Core.HLevel.{Unit-prop}
 use mathlib.Core.Logic.{∥∥₁_elim}
 use denote.Struct.Props.{props}
 use Rattle.line.specs.declared.parts.Book.{Book as Tables}

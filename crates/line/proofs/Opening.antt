@@ -1,13 +1,12 @@
 -- A newly opened line is what the model opens, and carries all that a line carries.
-use Rattle.std.proofs.Common.{◌≡◌, ℕ, zero, suc, ◌^◌, ◌<◌, ◌≤◌, Bool, true, false, ◌&&◌, leb, List, [], ◌∷◌, length, get_or, take, replicate, Some, None, Ok, Err, Option, sym, refl, ap, ◌∙◌, subst, ⊎_elim, arith}
+use Rattle.std.proofs.Common.{◌≡◌, ℕ, zero, suc, ◌^◌, ◌≤◌, true, ◌&&◌, leb, length, get_or, take, replicate, Some, Ok, sym, refl, ap, ◌∙◌, subst, ⊎_elim, arith}
 use Rattle.std.proofs.lemmas.List.{get_or-replicate, get_or_past, length-replicate}
 use Rattle.std.proofs.lemmas.Bool.{le-leb, and_from, cases_lt}
 use Rattle.std.specs.List.{slice_get}
 use Rattle.line.specs.declared.parts.Book.{Book as Tables}
 use Rattle.line.specs.declared.parts.Member.{Member as Seat}
-use Rattle.open_commands.specs.declared.parts.OpenCommand.{OpenCommand as Place}
-use Rattle.line.specs.Books.{view_table, view_member, view_book, blank_seat, Fits, SeatFits, Good}
-use Rattle.open_commands.specs.Views.{number_of, new_place}
+use Rattle.line.specs.Books.{view_table, view_member, view_book, blank_seat, Fits, SeatFits}
+use Rattle.open_commands.specs.Views.{number_of}
 use Rattle.open_commands.specs.Lists.{apart}
 use Rattle.line.specs.Calls.{EmptyBook, Opens}
 use Rattle.line.specs.Views.{new_seat, blank_remembered}
@@ -16,8 +15,7 @@ use Rattle.ordering.proofs.Basics.{some_inj, none_some}
 use Rattle.ordering.proofs.SoundSteps.{sound_new}
 use Rattle.ordering.specs.declared.calls.Refusal.TheVariants.{BadMemberCount, BadLastNumber}
 use Rattle.ordering.specs.Kept.{Sound}
-use Rattle.ordering.specs.Lines.{Member, Book}
-use Rattle.ordering.specs.Steps.{demand, new_member, new_book, open_closed}
+use Rattle.ordering.specs.Steps.{demand, new_member, new_book}
 
 -- What stands anywhere in a list of equal elements.
 pub nth-replicate : {X : Type 0} (n i : ℕ) (x y : X) → slice_get (replicate n x) i ≡ Some y → x ≡ y

@@ -1,6 +1,6 @@
 -- From what a call does to the tables to what the line promises.
 use mathlib.Core.HLevel.{is_prop→PathP}
-use Rattle.std.proofs.Common.{◌≡◌, ℕ, List, Some, None, Ok, Err, Option, Result, sym, refl, ap, ◌∙◌, subst}
+use Rattle.std.proofs.Common.{◌≡◌, ℕ, List, Some, None, Ok, Err, Option, Result, sym, ap, ◌∙◌, subst}
 use mathlib.Core.Logic.{∥∥₁_prop}
 use Rattle.line.specs.declared.book.Taken.{Taken}
 use Rattle.line.specs.declared.parts.Book.{Book as Tables}
@@ -14,9 +14,9 @@ use Rattle.ordering.specs.declared.calls.Call.TheVariants.{Run}
 use Rattle.ordering.specs.declared.calls.Refusal.{Refusal}
 use Rattle.ordering.specs.declared.calls.Refusal.TheVariants.{Closed}
 use Rattle.ordering.specs.Histories.{Event, running}
-use Rattle.ordering.specs.Lines.{Book, Line, closed, opened}
+use Rattle.ordering.specs.Lines.{Book, closed, opened}
 use Rattle.ordering.specs.Steps.{Outcome, Ran, run}
-use Rattle.ordering.specs.Worlds.{Turn, still, book_turn, run_turn, step}
+use Rattle.ordering.specs.Worlds.{still, book_turn, run_turn, step}
 
 -- Two lines with the same tables are equal: what they carry has one proof.
 pub line_path : {X : Type 0} (x y : Whole X) → x.book ≡ y.book → x.kind ≡ y.kind → x ≡ y

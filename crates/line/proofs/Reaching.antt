@@ -1,5 +1,5 @@
 -- A place of the table against the model's look-up.
-use Rattle.std.proofs.Common.{◌≡◌, ℕ, zero, suc, ◌<◌, ◌≤◌, min, Bool, true, false, cond, ◌&&◌, ltb, List, [], ◌∷◌, length, get_or, take, Some, None, Ok, Err, Option, sym, refl, ap, ◌∙◌, subst, arith, length-take, get_or-take}
+use Rattle.std.proofs.Common.{◌≡◌, ℕ, zero, suc, ◌<◌, ◌≤◌, Bool, cond, ◌&&◌, ltb, List, [], ◌∷◌, length, get_or, Some, Ok, Err, sym, ap, ◌∙◌, arith, length-take, get_or-take}
 use Rattle.std.proofs.lemmas.Option.{slice_get_read}
 use Rattle.std.proofs.lemmas.Bool.{lt-ltb}
 use Rattle.std.specs.List.{slice_get}
@@ -10,9 +10,8 @@ use Rattle.open_commands.specs.Views.{number_of, view_open}
 use Rattle.line.specs.Books.{live, view_book, Fits}
 use Rattle.ordering.specs.declared.calls.Refusal.TheVariants.{NoMember, NoDestination}
 use Rattle.ordering.proofs.Basics.{some_inj, none_some}
-use Rattle.ordering.specs.Lines.{OpenCommand}
 use Rattle.ordering.specs.Searches.{names}
-use Rattle.ordering.specs.Steps.{Outcome, demand, destined, reach}
+use Rattle.ordering.specs.Steps.{demand, destined, reach}
 
 pub live_length : (b : Tables) → Fits b → length (live b) ≡ b.used
 live_length b f =

@@ -1,5 +1,5 @@
 -- A command that has run everywhere leaves: the last one in use takes its place, and no other number is touched.
-use Rattle.std.proofs.Common.{◌≡◌, ℕ, ◌-◌, ◌<◌, ◌≤◌, Bool, true, false, cond, Some, None, sym, refl, ap, ◌∙◌, subst}
+use Rattle.std.proofs.Common.{◌≡◌, ℕ, ◌-◌, Bool, true, false, Some, sym, refl, subst}
 use Rattle.std.specs.List.{slice_get}
 use Rattle.line.specs.declared.parts.Book.{Book as Tables}
 use Rattle.open_commands.specs.declared.parts.OpenCommand.{OpenCommand as Place}

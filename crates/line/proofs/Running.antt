@@ -1,10 +1,10 @@
 -- The scan for the earliest ready command finds what the model's search by issue number finds.
-use Rattle.std.proofs.Common.{◌≡◌, ℕ, zero, suc, ◌<◌, ◌≤◌, Bool, true, false, cond, ◌&&◌, ◌||◌, List, [], ◌∷◌, length, Some, None, Option, sym, refl, ap, ◌∙◌, subst, arith}
+use Rattle.std.proofs.Common.{◌≡◌, ℕ, zero, suc, ◌<◌, ◌≤◌, true, cond, List, [], ◌∷◌, length, Some, None, Option, sym, refl, ap, ◌∙◌, subst, arith}
 use Rattle.std.specs.List.{slice_get}
 use Rattle.line.specs.declared.parts.Book.{Book as Tables}
 use Rattle.open_commands.specs.declared.parts.OpenCommand.{OpenCommand as Place}
 use Rattle.open_commands.specs.declared.table.Candidate.{Candidate}
-use Rattle.open_commands.specs.Lists.{lookup_by, mapped, all_of}
+use Rattle.open_commands.specs.Lists.{lookup_by, mapped}
 use Rattle.open_commands.specs.Views.{number_of, view_open}
 use Rattle.line.specs.Books.{live, view_book, Good}
 use Rattle.open_commands.specs.Places.{all_pass, ready_in, ready_place, BestTo, PlaceBelow}
@@ -14,11 +14,10 @@ use Rattle.line.proofs.Reaching.{live_length}
 use Rattle.line.proofs.SeatViews.{same_tests}
 use Rattle.machine.specs.declared.command.Command.{Command}
 use Rattle.machine.specs.Kinds.{Kind}
-use Rattle.ordering.proofs.Basics.{some_inj, none_some}
+use Rattle.ordering.proofs.Basics.{none_some}
 use Rattle.ordering.proofs.Bounded.{all_each, all_from}
 use Rattle.ordering.proofs.Ready.{earliest_found, earliest_least, earliest_some}
-use Rattle.ordering.specs.Lines.{OpenCommand, Book}
-use Rattle.ordering.specs.Searches.{Pair, all_below, earliest_below}
+use Rattle.ordering.specs.Searches.{Pair, earliest_below}
 use Rattle.ordering.specs.Steps.{passes, unhindered, ready_at, ready_if, settled_as}
 
 pub nth_inside : {X : Type 0} (xs : List X) (i : ℕ) (x : X) → slice_get xs i ≡ Some x → i < length xs

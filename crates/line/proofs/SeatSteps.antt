@@ -1,9 +1,8 @@
 -- A hear and a settle at one member, on its fixed places and in the model.
-use Rattle.std.proofs.Common.{◌≡◌, ℕ, suc, ◌+◌, ◌<◌, ◌≤◌, Bool, true, false, cond, not, ◌&&◌, ◌||◌, eqb, ltb, leb, List, [], ◌∷◌, ◌++◌, length, Some, None, Option, sym, refl, ap, ◌∙◌, subst, add-one, arith}
+use Rattle.std.proofs.Common.{◌≡◌, ℕ, ◌+◌, ◌<◌, ◌≤◌, Bool, true, false, cond, not, ◌&&◌, eqb, ltb, leb, length, Some, None, Option, sym, refl, ap, ◌∙◌, subst, add-one, arith}
 use Rattle.std.proofs.lemmas.Bool.{lt-ltb, le-ltb, ltb-true, leb-false, leb-true, or_parts, cond-true, cond-false, and_parts, not-true}
 use Rattle.line.specs.declared.parts.Member.{Member as Seat}
-use Rattle.line.specs.Books.{held_number, view_member, SeatFits}
-use Rattle.open_commands.specs.Lists.{apart}
+use Rattle.line.specs.Books.{view_member, SeatFits}
 use Rattle.line.specs.Views.{any_number, any_clash, memory, rises_in, proposal_in, risen_seat, lift_in, remember_in, hear_in, settle_in}
 use Rattle.line.proofs.SeatViews.{Known, full_view, rises_view, number_view, remember_view, remember_fits}
 use Rattle.line.proofs.TableViews.{member_path}

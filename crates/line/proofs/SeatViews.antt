@@ -1,23 +1,22 @@
 -- A member's clock and memory on fixed places do what the model's do.
-use Rattle.std.proofs.Common.{◌≡◌, ℕ, suc, ◌+◌, ◌^◌, ◌<◌, ◌≤◌, min, Bool, true, false, cond, not, ◌&&◌, ◌||◌, eqb, ltb, leb, List, [], ◌∷◌, ◌++◌, length, take, set, Some, None, Option, sym, refl, ap, ◌∙◌, subst, add-one, arith, length-set, length-take}
+use Rattle.std.proofs.Common.{◌≡◌, ℕ, suc, ◌<◌, ◌≤◌, Bool, true, false, cond, ◌||◌, eqb, leb, List, [], ◌∷◌, ◌++◌, length, Some, None, Option, sym, refl, ap, ◌∙◌, subst, arith, length-set, length-take}
 use Rattle.std.proofs.lemmas.List.{take_more_set}
-use Rattle.std.proofs.lemmas.Bool.{lt-ltb, le-ltb, ltb-true, ltb-false, le-leb, leb-true, or_left, or_parts, cases_Bool, cond-true, cond-false}
 use Rattle.std.specs.List.{slice_get}
 use Rattle.line.specs.declared.parts.Member.{Member as Seat}
 use Rattle.line.specs.declared.parts.Remembered.{Remembered}
-use Rattle.open_commands.specs.Lists.{lookup_by, mapped, apart, any_of}
+use Rattle.open_commands.specs.Lists.{lookup_by, mapped, apart}
 use Rattle.line.specs.Books.{held_number, held_command, view_memory, view_member, SeatFits}
-use Rattle.line.specs.Views.{any_clash, any_number, memory, rises_in, proposal_in, risen_seat, lift_in, remember_in, hear_in, settle_in}
+use Rattle.line.specs.Views.{any_clash, any_number, memory, rises_in, remember_in}
 use Rattle.open_commands.proofs.Keyed.{lookup_place, lookup_own, lookup_push, apart_push, count_keys}
 use Rattle.open_commands.proofs.Lists.{any_at, some_of}
 use Rattle.line.proofs.TableViews.{member_path, mapped-put}
 use Rattle.machine.specs.declared.command.Command.{Command}
 use Rattle.machine.specs.Kinds.{Kind}
-use Rattle.ordering.proofs.Basics.{some_inj, none_some, false_true}
+use Rattle.ordering.proofs.Basics.{none_some, false_true}
 use Rattle.ordering.proofs.Bounded.{any_found, any_none}
-use Rattle.ordering.specs.Lines.{Member, held_count}
-use Rattle.ordering.specs.Searches.{put, present, any_below, count_below}
-use Rattle.ordering.specs.Steps.{clashes, is_full, must_rise, risen, remember, hearer, settler}
+use Rattle.ordering.specs.Lines.{held_count}
+use Rattle.ordering.specs.Searches.{present, any_below, count_below}
+use Rattle.ordering.specs.Steps.{clashes, is_full, must_rise, remember}
 
 pub mapped-present : {X Y : Type 0} (f : X → Y) (o : Option X) → present (mapped f o) ≡ present o
 mapped-present f None = refl

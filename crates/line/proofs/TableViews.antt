@@ -1,22 +1,19 @@
 -- One place or one seat of the tables changed: what the model sees, and that the tables still fit.
-use Rattle.std.proofs.Common.{◌≡◌, ℕ, zero, suc, ◌<◌, ◌≤◌, Bool, true, false, cond, eqb, ◌≢◌, ◌⊎◌, List, [], ◌∷◌, length, get_or, take, set, Some, None, Option, sym, refl, ap, ◌∙◌, subst, inl, inr, ⊎_elim, arith, length-set, get_or-set_other, get_or-set_same}
+use Rattle.std.proofs.Common.{◌≡◌, ℕ, zero, suc, ◌<◌, Bool, true, false, cond, eqb, ◌≢◌, ◌⊎◌, List, [], ◌∷◌, length, get_or, set, Some, Option, sym, refl, ap, ◌∙◌, subst, inl, inr, ⊎_elim, arith, length-set, get_or-set_other, get_or-set_same}
 use lib.Seq.{take-set-lt}
-use Rattle.std.proofs.lemmas.Bool.{cases_eq}
 use Rattle.std.specs.List.{slice_get}
 use Rattle.line.specs.declared.parts.Book.{Book as Tables}
-use Rattle.open_commands.specs.declared.parts.Destination.{Destination}
 use Rattle.line.specs.declared.parts.Member.{Member as Seat}
 use Rattle.open_commands.specs.declared.parts.OpenCommand.{OpenCommand as Place}
 use Rattle.open_commands.specs.Lists.{lookup_by, mapped, apart}
 use Rattle.open_commands.specs.Views.{number_of, phase_in, unsent, view_open, with_phase_in}
-use Rattle.line.specs.Books.{live, view_table, view_member, view_book, blank_seat, with_place, with_seat, Fits, SeatFits}
+use Rattle.line.specs.Books.{live, view_table, view_member, blank_seat, with_place, with_seat, Fits, SeatFits}
 use Rattle.open_commands.proofs.Keyed.{lookup_set, apart_set}
-use Rattle.line.proofs.Reaching.{live_length}
-use Rattle.ordering.proofs.Basics.{some_inj, none_some, put_cases, put_same, put_other}
+use Rattle.ordering.proofs.Basics.{some_inj, none_some, put_cases}
 use Rattle.ordering.specs.declared.calls.Phase.{Phase}
 use Rattle.ordering.specs.Lines.{OpenCommand, Member, Book}
 use Rattle.ordering.specs.Searches.{put}
-use Rattle.ordering.specs.Steps.{with_phase, with_fixed, with_command, with_member}
+use Rattle.ordering.specs.Steps.{with_phase}
 
 pub open_path : (o o' : OpenCommand) → o.sender ≡ o'.sender → o.set ≡ o'.set → o.command ≡ o'.command → o.fixed ≡ o'.fixed → ((q : ℕ) → o.phase q ≡ o'.phase q) → o ≡ o'
 open_path o o' a b c d e = λ i. record { sender = a i; set = b i; command = c i; fixed = d i; phase = λ q. e q i }

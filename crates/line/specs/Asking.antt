@@ -1,5 +1,5 @@
 -- One call given as a value, and the ordering theorem of every list of calls that leads there.
-use Rattle.std.specs.Prelude.{◌≡◌, ℕ, List, [], ◌∷◌}
+use Rattle.std.specs.Prelude.{◌≡◌, ℕ, List, ◌∷◌}
 use Rattle.line.specs.Promises.{cells_after}
 use Rattle.machine.specs.Kinds.{Kind}
 use Rattle.ordering.specs.Answering.{answer_of}
@@ -9,7 +9,7 @@ use Rattle.ordering.specs.declared.calls.Call.{Call}
 use Rattle.ordering.specs.declared.calls.Call.TheVariants.{Open, Send, Hear, Gather, Settle, Run}
 use Rattle.ordering.specs.Lines.{Line}
 use Rattle.ordering.specs.Ordering.{Ordered}
-use Rattle.ordering.specs.Worlds.{World, after, step}
+use Rattle.ordering.specs.Worlds.{after, step}
 
 -- A run is for the station that is given, whose member is m.
 abbrev pub call_at : Call → ℕ → Call

@@ -1,5 +1,5 @@
 -- What a call does to the tables, by the model's step.
-use Rattle.std.specs.Prelude.{◌≡◌, ℕ, ◌-◌, Bool, true, false, List, length, replicate, Some, Ok, Err, Option, Result}
+use Rattle.std.specs.Prelude.{◌≡◌, ℕ, ◌-◌, Bool, true, false, length, replicate, Some, Ok, Err, Result}
 use Rattle.line.specs.declared.book.Taken.{Taken}
 use Rattle.line.specs.declared.parts.Book.{Book as Tables}
 use Rattle.open_commands.specs.declared.parts.OpenCommand.{OpenCommand as Place}

@@ -1,4 +1,6 @@
 //! The line: six calls on fixed memory.
+#![tactic(auto)]
+
 mod book;
 mod member;
 mod parts;

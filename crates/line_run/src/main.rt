@@ -1,4 +1,6 @@
 //! Reads a script on standard input and prints its trace; after a fault, the record of the fault.
+#![tactic(auto)]
+
 ghost use Rattle.std.specs.Prelude.{◌≤◌, length, IfOk};
 
 use runner::run::{SCRIPT_LIMIT, run_script};

@@ -1,5 +1,7 @@
 //! A line tried through its public calls: every refusal at every call that gives it, the order of checking, the limits,
 //! and the steps. The expected values were worked by hand from docs/LINE.md.
+#![tactic(auto)]
+
 #[cfg(test)]
 mod asking;
 #[cfg(test)]

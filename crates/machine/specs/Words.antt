@@ -1,5 +1,5 @@
 -- Cells of 32 bits.
-use Rattle.std.specs.Prelude.{ℕ, ◌%◌, ◌^◌, Bool, true, false, ◌&&◌, List, [], ◌∷◌, length, ◌==◌, nat_lt}
+use Rattle.std.specs.Prelude.{ℕ, ◌%◌, ◌^◌, Bool, true, ◌&&◌, List, [], ◌∷◌, length, ◌==◌, nat_lt}
 
 -- A number brought below 2^32. It changes no number that a real command carries.
 abbrev pub wrap : ℕ → ℕ

@@ -1,4 +1,6 @@
 //! Worked examples of the three kinds of machine. The expected values were worked by hand from docs/MACHINES.md.
+#![tactic(auto)]
+
 ghost use Rattle.std.specs.Prelude.{◌≡◌, [], ◌∷◌, replicate};
 ghost use Rattle.machine.specs.Recorders.{record_next};
 ghost use Rattle.machine.specs.Tallies.{tally_next};

@@ -1,10 +1,10 @@
 -- Loops over the destinations of an open command, turn by turn.
-use Rattle.std.proofs.Common.{◌≡◌, ℕ, suc, ◌+◌, ◌<◌, ◌≤◌, max, Bool, true, false, cond, not, ◌&&◌, ◌||◌, Some, None, Option, sym, refl, ap, ◌∙◌, subst, add-one, arith}
+use Rattle.std.proofs.Common.{◌≡◌, ℕ, ◌+◌, ◌<◌, max, Bool, true, false, cond, not, ◌||◌, Some, None, sym, refl, ap, ◌∙◌, subst, add-one}
 use native.Mathlib.Nat.{max_comm}
 use Rattle.std.proofs.lemmas.Bool.{and_from}
 use Rattle.open_commands.specs.Views.{gathered_by, gathered_at, done_at}
-use Rattle.ordering.proofs.Basics.{some_inj, none_some, false_true}
-use Rattle.ordering.proofs.Bounded.{all_fails, all_each}
+use Rattle.ordering.proofs.Basics.{some_inj, none_some}
+use Rattle.ordering.proofs.Bounded.{all_fails}
 use Rattle.ordering.specs.declared.calls.Phase.{Phase}
 use Rattle.ordering.specs.declared.calls.Phase.TheVariants.{Sent, Heard, Gathered, Settled, Run}
 use Rattle.ordering.specs.Lines.{OpenCommand, is_gathered, is_run, proposal, everywhere, greatest_proposal}

@@ -1,10 +1,10 @@
 -- Lists with keys: what a look-up answers, and what it answers after a change at one place.
-use Rattle.std.proofs.Common.{◌≡◌, ℕ, zero, suc, ◌+◌, ◌<◌, ◌≤◌, Bool, true, false, cond, not, ◌&&◌, ◌||◌, eqb, ◌⊎◌, List, [], ◌∷◌, ◌++◌, length, get_or, take, set, Some, None, Option, sym, refl, ap, ◌∙◌, subst, inl, inr, ⊎_elim, add-one, arith, length-append}
+use Rattle.std.proofs.Common.{◌≡◌, ℕ, zero, suc, ◌+◌, ◌<◌, ◌≤◌, Bool, true, false, cond, not, ◌&&◌, eqb, List, [], ◌∷◌, ◌++◌, length, take, set, Some, None, Option, sym, refl, ap, ◌∙◌, subst, ⊎_elim, arith}
 use lib.Seq.{take-set-le, take-set-lt}
-use Rattle.std.proofs.lemmas.Bool.{cases_eq, eq-eqb, ne_eqb, eqb-true, eqb-false, cond-true, cond-false, and_parts, and_from, not-true}
+use Rattle.std.proofs.lemmas.Bool.{cases_eq, eq-eqb, ne_eqb, eqb-true, cond-true, cond-false, and_parts, and_from}
 use Rattle.std.specs.List.{slice_get}
-use Rattle.open_commands.specs.Lists.{lookup_by, mapped, apart, MissTo}
-use Rattle.ordering.proofs.Basics.{some_inj, none_some, false_true, put_same, put_other}
+use Rattle.open_commands.specs.Lists.{lookup_by, apart, MissTo}
+use Rattle.ordering.proofs.Basics.{some_inj, none_some, false_true, put_other}
 use Rattle.ordering.proofs.Bounded.{sum_change}
 use Rattle.ordering.specs.Searches.{put, present, count_below, sum_below}
 

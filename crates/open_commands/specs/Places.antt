@@ -4,7 +4,7 @@ use Rattle.std.specs.List.{slice_get}
 use Rattle.open_commands.specs.declared.parts.Address.{Address}
 use Rattle.open_commands.specs.declared.parts.OpenCommand.{OpenCommand as Place}
 use Rattle.open_commands.specs.declared.table.Candidate.{Candidate}
-use Rattle.open_commands.specs.Lists.{lookup_by, all_of, MissTo}
+use Rattle.open_commands.specs.Lists.{lookup_by, all_of}
 use Rattle.open_commands.specs.Views.{number_of, view_open}
 use Rattle.machine.specs.declared.command.Command.{Command}
 use Rattle.machine.specs.Kinds.{Kind}
@@ -13,10 +13,10 @@ use Rattle.ordering.specs.declared.calls.Refusal.TheVariants.{NoMember, BadSet}
 use Rattle.ordering.specs.Searches.{Pair, earlier}
 use Rattle.ordering.specs.Steps.{lawful_set, passes, settled_as}
 
--- The first place of a command with number k.
+-- The place of the command with number k.
 abbrev pub FoundAt : List Place → ℕ → Option ℕ → Type 0
 FoundAt ps k None = lookup_by number_of ps k ≡ None
-FoundAt ps k (Some i) = (i < length ps) × (lookup_by number_of ps k ≡ slice_get ps i) × MissTo number_of ps k i
+FoundAt ps k (Some i) = (i < length ps) × (lookup_by number_of ps k ≡ slice_get ps i)
 
 -- Every place passes the pair and the command at member m.
 abbrev pub all_pass : Kind → ℕ → Pair → Command → List Place → Bool

@@ -1,5 +1,5 @@
 -- An open command as the model has it.
-use Rattle.std.specs.Prelude.{ℕ, Bool, cond, not, ◌||◌, List, set, replicate, Some, None, Option, slice_index_or, slice_set}
+use Rattle.std.specs.Prelude.{ℕ, Bool, cond, not, ◌||◌, List, replicate, Some, None, Option, slice_index_or, slice_set}
 use Rattle.open_commands.specs.declared.parts.Address.{Address}
 use Rattle.open_commands.specs.declared.parts.Destination.{Destination}
 use Rattle.open_commands.specs.declared.parts.OpenCommand.{OpenCommand as Place}

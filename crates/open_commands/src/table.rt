@@ -1,6 +1,8 @@
 //! Searches over the open commands of a line.
-ghost use Rattle.std.specs.Prelude.{◌≡◌, ◌+◌, ◌<◌, length};
+ghost use Rattle.std.specs.Prelude.{◌≡◌, ◌+◌, ◌<◌, IfSome, length};
+ghost use Rattle.open_commands.specs.Lists.{MissTo};
 ghost use Rattle.open_commands.specs.Places.{FoundAt, all_pass, improves_on, BestTo, EarliestAt};
+ghost use Rattle.open_commands.specs.Views.{number_of};
 
 use crate::open_command::earlier;
 use crate::parts::{MEMBERS, OpenCommand};
@@ -9,7 +11,8 @@ use machine::kind::Machine;
 
 /// The place of the command with the number.
 pub fn place_of(commands: &[OpenCommand], number: u64) -> Option<usize>
-    ensures { FoundAt commands.now number result }
+    ensures found { FoundAt commands.now number result }
+    ensures first { IfSome result (λ place. MissTo number_of commands.now number place) }
 {
     for (place, command) in commands.iter().enumerate() {
         if command.number == number {

@@ -1,16 +1,16 @@
 -- What an accepted call found, and what it answers: each call turned round, so that no later proof walks through the checks.
-use Rattle.std.proofs.Common.{◌≡◌, ℕ, zero, suc, ◌^◌, ◌<◌, ◌≤◌, Bool, true, false, cond, not, ◌&&◌, ◌||◌, eqb, ltb, leb, Some, None, Ok, Err, Option, sym, refl, ap, ◌∙◌, subst, arith}
+use Rattle.std.proofs.Common.{◌≡◌, ℕ, suc, ◌^◌, ◌<◌, ◌≤◌, Bool, true, false, ltb, leb, Some, None, Ok, Err, Option, sym, refl, ap, ◌∙◌, subst}
 use Rattle.std.proofs.lemmas.Bool.{ltb-true, leb-true, and_parts}
 use Rattle.machine.specs.declared.command.Command.{Command}
 use Rattle.machine.specs.Kinds.{Kind}
 use Rattle.ordering.specs.declared.calls.Phase.{Phase}
 use Rattle.ordering.specs.declared.calls.Phase.TheVariants.{Sent, Heard, Gathered, Settled, Run}
 use Rattle.ordering.specs.declared.calls.Refusal.{Refusal}
-use Rattle.ordering.specs.Limits.{member_limit, open_limit, number_limit}
-use Rattle.ordering.specs.Lines.{OpenCommand, Member, Book, open_count}
+use Rattle.ordering.specs.Limits.{member_limit, open_limit}
+use Rattle.ordering.specs.Lines.{OpenCommand, Book, open_count}
 use Rattle.ordering.specs.Searches.{Pair, names, earliest_below}
-use Rattle.ordering.specs.Steps.{Outcome, demand, Ran, new_book, new_command, issue, lawful_set, open_closed, send, destined, reach, hear, hear_at, hear_in, hearer, heard_now, gather, gather_at, gather_in, gathered_now, with_phase, settle, settle_at, settle_in, settled_now, settler, run, run_earliest, run_taken, ready_at, with_command, left}
-use Rattle.ordering.proofs.Basics.{some_inj, none_some, ok_inj, err_ok}
+use Rattle.ordering.specs.Steps.{Outcome, demand, Ran, new_book, new_command, issue, open_closed, send, destined, reach, hear, hear_at, hear_in, hearer, heard_now, gather, gather_at, gather_in, gathered_now, with_phase, settle, settle_at, settle_in, settled_now, settler, run, run_earliest, run_taken, ready_at, with_command, left}
+use Rattle.ordering.proofs.Basics.{ok_inj, err_ok}
 
 demand_ok : {A : Type 0} (test : Bool) (e : Refusal) (r : Outcome A) (x : A) → demand test e r ≡ Ok x → (test ≡ true) × (r ≡ Ok x)
 demand_ok true e r x h = (refl, h)

@@ -1,16 +1,14 @@
 -- A hear: the command had no standing at the member, and no member had settled it, so nothing else moves.
-use Rattle.std.proofs.Common.{◌≡◌, ℕ, suc, ◌<◌, ◌≤◌, Bool, true, false, cond, List, [], ◌∷◌, Some, None, Option, sym, refl, ap, ◌∙◌, subst, ⊎_elim, arith}
+use Rattle.std.proofs.Common.{◌≡◌, ℕ, suc, ◌<◌, ◌≤◌, false, cond, List, Some, Option, sym, refl, ap, ◌∙◌, subst, ⊎_elim, arith}
 use Rattle.std.proofs.lemmas.Bool.{cases_eq}
-use Rattle.machine.specs.declared.command.Command.{Command}
 use Rattle.machine.specs.Kinds.{Kind, Laws}
-use Rattle.ordering.specs.declared.calls.Phase.{Phase}
-use Rattle.ordering.specs.declared.calls.Phase.TheVariants.{Sent, Heard, Gathered, Settled, Run}
-use Rattle.ordering.specs.Histories.{Account, Issue, note_hear, put_twice}
-use Rattle.ordering.specs.Kept.{Sound, is_past}
+use Rattle.ordering.specs.declared.calls.Phase.TheVariants.{Sent, Heard}
+use Rattle.ordering.specs.Histories.{Account, note_hear}
+use Rattle.ordering.specs.Kept.{is_past}
 use Rattle.ordering.specs.Limits.{member_limit}
 use Rattle.ordering.specs.Lines.{OpenCommand, Member, Book}
 use Rattle.ordering.specs.Ordering.{greatest_answer, answer, has}
-use Rattle.ordering.specs.Searches.{put, names, greatest_below}
+use Rattle.ordering.specs.Searches.{put, greatest_below}
 use Rattle.ordering.specs.Steps.{hearer, heard_now, with_phase}
 use Rattle.ordering.proofs.Accepted.{Reached}
 use Rattle.ordering.proofs.AtMember.{AtMember}
@@ -18,7 +16,7 @@ use Rattle.ordering.proofs.Basics.{some_inj, false_true, put_same, put_other}
 use Rattle.ordering.proofs.MemberSteps.{hear_keeps}
 use Rattle.ordering.proofs.Moving.{phases_moved, sent_moved, table_cases}
 use Rattle.ordering.proofs.Standing.{Inv, command_of, command_by, stand_of, phase_here, agree_here, never_settled}
-use Rattle.ordering.proofs.Tied.{Tied, Moved, Agree, Stage, stage_of, phase_of, phase_at, issue_of, rank, agree_moved, cost_moved, put_twice_same, put_twice_other}
+use Rattle.ordering.proofs.Tied.{Tied, Moved, Agree, Stage, stage_of, issue_of, rank, agree_moved, cost_moved, put_twice_same, put_twice_other}
 
 module _ (K : Kind) (L : Laws K) (a : Account) (b : Book) (cells : ℕ → List ℕ) (h : Inv K a b cells) (m k : ℕ) (o : OpenCommand) (r : Reached b m k o) (was : o.phase m ≡ Sent) where
   -- the member afterwards, the proposal, the history and the line

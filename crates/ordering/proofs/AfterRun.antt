@@ -1,21 +1,19 @@
 -- A run: what is ready is earlier than every conflicting command that is heard and unrun, so the past stays the past.
-use Rattle.std.proofs.Common.{◌≡◌, ℕ, suc, ◌<◌, ◌≤◌, Bool, true, false, cond, not, ◌||◌, eqb, List, [], ◌∷◌, Some, None, Option, sym, refl, ap, ◌∙◌, subst, ⊎_elim, arith}
-use Rattle.std.proofs.lemmas.Bool.{cases_eq, eq-eqb, ne_eqb, or_left, eqb-true}
-use Rattle.machine.specs.declared.command.Command.{Command}
+use Rattle.std.proofs.Common.{◌≡◌, ℕ, suc, ◌<◌, Bool, true, false, cond, not, ◌||◌, eqb, List, ◌∷◌, Some, None, sym, refl, ap, ◌∙◌, subst, ⊎_elim, arith}
+use Rattle.std.proofs.lemmas.Bool.{cases_eq, eq-eqb, ne_eqb, or_left}
 use Rattle.machine.specs.Kinds.{Kind, Laws}
 use Rattle.ordering.specs.declared.calls.Phase.{Phase}
 use Rattle.ordering.specs.declared.calls.Phase.TheVariants.{Sent, Heard, Gathered, Settled, Run}
-use Rattle.ordering.specs.Histories.{Account, Issue, note_run}
-use Rattle.ordering.specs.Kept.{Sound}
+use Rattle.ordering.specs.Histories.{Account, note_run}
 use Rattle.ordering.specs.Limits.{member_limit}
-use Rattle.ordering.specs.Lines.{OpenCommand, Member, Book, is_run, everywhere, standing, stands_by}
+use Rattle.ordering.specs.Lines.{OpenCommand, Book, is_run, everywhere, standing, stands_by}
 use Rattle.ordering.specs.Ordering.{Earlier, greatest_answer, has}
-use Rattle.ordering.specs.Searches.{Pair, put, names, earlier, all_below}
-use Rattle.ordering.specs.Steps.{with_phase, with_command, left, unhindered, passes, passes_at}
+use Rattle.ordering.specs.Searches.{put, names, earlier}
+use Rattle.ordering.specs.Steps.{with_phase, with_command, left, passes, passes_at}
 use Rattle.ordering.proofs.AtMember.{AtMember, Clash}
 use Rattle.ordering.proofs.Basics.{some_inj, none_some, false_true, put_same, put_other}
 use Rattle.ordering.proofs.Bounded.{all_each}
-use Rattle.ordering.proofs.MemberSteps.{run_keeps, clash_sym}
+use Rattle.ordering.proofs.MemberSteps.{run_keeps}
 use Rattle.ordering.proofs.Moving.{phases_moved, sent_moved, table_cases}
 use Rattle.ordering.proofs.Pairs.{earlier_true}
 use Rattle.ordering.proofs.Ready.{Ready}

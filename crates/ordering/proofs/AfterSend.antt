@@ -1,12 +1,10 @@
 -- A new line, and a send: the new number was never seen before, so nothing is known of it and nothing else changes.
-use Rattle.std.proofs.Common.{◌≡◌, ℕ, suc, ◌^◌, ◌<◌, ◌≤◌, Bool, true, false, cond, eqb, List, [], ◌∷◌, Some, None, Option, sym, refl, ap, ◌∙◌, subst, arith}
-use Rattle.std.proofs.lemmas.Bool.{eqb-true, eqb-false}
+use Rattle.std.proofs.Common.{◌≡◌, ℕ, suc, ◌^◌, ◌<◌, ◌≤◌, Bool, true, false, cond, eqb, List, [], Some, None, Option, sym, refl, ap, ◌∙◌, subst, arith}
+use Rattle.std.proofs.lemmas.Bool.{eqb-true}
 use Rattle.machine.specs.declared.command.Command.{Command}
 use Rattle.machine.specs.Kinds.{Kind}
-use Rattle.ordering.specs.declared.calls.Phase.{Phase}
-use Rattle.ordering.specs.declared.calls.Phase.TheVariants.{Sent, Heard, Gathered, Settled, Run}
+use Rattle.ordering.specs.declared.calls.Phase.TheVariants.{Sent}
 use Rattle.ordering.specs.Histories.{Account, Issue, blank, note_send}
-use Rattle.ordering.specs.Kept.{Sound}
 use Rattle.ordering.specs.Limits.{member_limit}
 use Rattle.ordering.specs.Lines.{OpenCommand, Book}
 use Rattle.ordering.specs.Ordering.{greatest_answer}
@@ -18,7 +16,7 @@ use Rattle.ordering.proofs.Bits.{names_below}
 use Rattle.ordering.proofs.Bounded.{sum_same}
 use Rattle.ordering.proofs.MemberSteps.{more_commands}
 use Rattle.ordering.proofs.Standing.{Inv, command_by, command_of, stand_of}
-use Rattle.ordering.proofs.Tied.{Tied, Agree, stage_of, phase_of, phase_by, phase_at, issue_of, rank}
+use Rattle.ordering.proofs.Tied.{Tied, Agree, stage_of, phase_of, phase_by, issue_of, rank}
 
 pub tied_new : (n last : ℕ) → Tied blank (new_book n last)
 tied_new n last =

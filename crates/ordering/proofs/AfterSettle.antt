@@ -1,14 +1,13 @@
 -- A settle: the command moves from its proposal up to its final timestamp at this member, and nothing else moves.
-use Rattle.std.proofs.Common.{◌≡◌, ℕ, suc, ◌<◌, ◌≤◌, Bool, true, false, cond, List, Some, None, Option, sym, refl, ap, ◌∙◌, subst, ⊎_elim, arith}
+use Rattle.std.proofs.Common.{◌≡◌, ℕ, suc, ◌<◌, ◌≤◌, Bool, true, cond, List, Some, sym, refl, ap, ◌∙◌, subst, ⊎_elim, arith}
 use Rattle.std.proofs.lemmas.Bool.{cases_eq}
 use Rattle.machine.specs.Kinds.{Kind}
-use Rattle.ordering.specs.declared.calls.Phase.{Phase}
-use Rattle.ordering.specs.declared.calls.Phase.TheVariants.{Sent, Heard, Gathered, Settled, Run}
+use Rattle.ordering.specs.declared.calls.Phase.TheVariants.{Gathered, Settled}
 use Rattle.ordering.specs.Histories.{Account, note_settle}
 use Rattle.ordering.specs.Limits.{member_limit}
 use Rattle.ordering.specs.Lines.{OpenCommand, Member, Book}
 use Rattle.ordering.specs.Ordering.{greatest_answer, answer, has}
-use Rattle.ordering.specs.Searches.{put, names}
+use Rattle.ordering.specs.Searches.{put}
 use Rattle.ordering.specs.Steps.{settler, settled_now, with_phase}
 use Rattle.ordering.proofs.Accepted.{Reached}
 use Rattle.ordering.proofs.AtMember.{AtMember}

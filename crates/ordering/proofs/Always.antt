@@ -1,17 +1,16 @@
 -- The ordering theorem, by induction on the list of calls.
-use Rattle.std.proofs.Common.{◌≡◌, ℕ, suc, ◌<◌, ◌≤◌, Bool, true, false, cond, List, [], ◌∷◌, Some, None, Ok, Err, Option, sym, refl, ap, ◌∙◌, subst}
+use Rattle.std.proofs.Common.{◌≡◌, ℕ, suc, ◌≤◌, List, [], ◌∷◌, Ok, Err, Option, sym, refl, ap, ◌∙◌, subst}
 use Rattle.machine.specs.declared.command.Command.{Command}
 use Rattle.machine.specs.Kinds.{Kind, Laws}
 use Rattle.ordering.specs.declared.calls.Call.{Call}
 use Rattle.ordering.specs.declared.calls.Call.TheVariants.{Open, Send, Hear, Gather, Settle, Run}
-use Rattle.ordering.specs.Histories.{Account, Event, sending, hearing, gathering, settling, blank, note, note_send, note_hear, note_gather, note_settle, note_run, read}
+use Rattle.ordering.specs.Histories.{Account, sending, hearing, gathering, settling, blank, note, read}
 use Rattle.ordering.specs.Limits.{member_limit}
 use Rattle.ordering.specs.Lines.{Book, Line, closed, opened}
 use Rattle.ordering.specs.Ordering.{Ordered, OrderedAlways}
-use Rattle.ordering.specs.Searches.{put}
 use Rattle.ordering.specs.Steps.{Outcome, Ran, open_closed, send, hear, gather, settle, run}
-use Rattle.ordering.specs.Worlds.{World, Turn, after, step, turned, closed_turn, opened_turn, open_turn, book_turn, run_turn, moved}
-use Rattle.ordering.proofs.Accepted.{OpenOk, SendOk, HearOk, GatherOk, SettleOk, RunOk, open_ok, send_ok, hear_ok, gather_ok, settle_ok, run_ok}
+use Rattle.ordering.specs.Worlds.{World, Turn, after, step, closed_turn, opened_turn, open_turn, book_turn, run_turn, moved}
+use Rattle.ordering.proofs.Accepted.{open_ok, send_ok, hear_ok, gather_ok, settle_ok, run_ok}
 use Rattle.ordering.proofs.AfterGather.{tied_gather}
 use Rattle.ordering.proofs.AfterHear.{tied_hear, members_hear}
 use Rattle.ordering.proofs.AfterRun.{tied_run, members_run}

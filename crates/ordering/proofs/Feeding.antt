@@ -1,6 +1,5 @@
 -- A command that runs late is fed at its place: it commutes back past the later ones, none of which conflicts with it.
-use Rattle.std.proofs.Common.{◌≡◌, ℕ, ◌<◌, ◌≤◌, Bool, true, false, cond, ◌⊎◌, List, [], ◌∷◌, sym, refl, ap, ◌∙◌, subst, inl, inr, ⊎_elim}
-use Rattle.machine.specs.declared.command.Command.{Command}
+use Rattle.std.proofs.Common.{◌≡◌, ℕ, Bool, true, false, cond, ◌⊎◌, List, [], ◌∷◌, refl, ap, ◌∙◌, inl, inr, ⊎_elim}
 use Rattle.machine.specs.Kinds.{Kind, Laws}
 use Rattle.ordering.specs.Ordering.{Earlier, Entry, pair_of, Listed, Each, Rising, plain}
 use Rattle.ordering.specs.Searches.{earlier}

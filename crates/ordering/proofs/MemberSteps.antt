@@ -1,16 +1,16 @@
 -- A hear, a settle and a run at one member keep what holds there.
-use Rattle.std.proofs.Common.{◌≡◌, ℕ, suc, ◌<◌, ◌≤◌, Bool, true, false, cond, not, ◌&&◌, ◌||◌, eqb, ltb, leb, ◌⊎◌, List, [], ◌∷◌, Some, None, Option, sym, refl, ap, ◌∙◌, subst, inl, inr, ⊎_elim, arith}
-use Rattle.std.proofs.lemmas.Bool.{cases_eq, cases_lt, or_parts, or_left, or_right, or_cases, or_from, and_parts, eqb-true, eqb-false, eq-eqb, ne_eqb, ltb-true, ltb-false}
+use Rattle.std.proofs.Common.{◌≡◌, ℕ, suc, ◌<◌, ◌≤◌, Bool, true, false, cond, not, ◌&&◌, eqb, ltb, ◌⊎◌, List, [], ◌∷◌, Some, None, Option, sym, refl, ap, ◌∙◌, subst, inl, inr, ⊎_elim, arith}
+use Rattle.std.proofs.lemmas.Bool.{or_parts, or_left, or_right, or_cases, eqb-true, eqb-false, eq-eqb, ltb-true, ltb-false}
 use Rattle.machine.specs.declared.command.Command.{Command}
 use Rattle.machine.specs.Kinds.{Kind, Laws}
 use Rattle.ordering.specs.Lines.{Member}
-use Rattle.ordering.specs.Ordering.{Earlier, has, Once, Entry, pair_of, Listed, Each, Rising, plain}
+use Rattle.ordering.specs.Ordering.{Earlier, has, Entry, pair_of, Listed, Each}
 use Rattle.ordering.specs.Searches.{put, present, any_below}
 use Rattle.ordering.specs.Steps.{hearer, must_rise, is_full, clashes, risen, remember, settler}
 use Rattle.ordering.proofs.AtMember.{AtMember, Clash, Ascending, EntryAt}
 use Rattle.ordering.proofs.Basics.{some_inj, none_some, false_true, put_same, put_other, put_cases}
 use Rattle.ordering.proofs.Bounded.{any_none}
-use Rattle.ordering.proofs.Feeding.{insert, each_map, each_both, each_insert, listed_new, listed_old, rising_insert, Passable, plain_insert}
+use Rattle.ordering.proofs.Feeding.{insert, each_map, each_insert, listed_new, listed_old, rising_insert, Passable, plain_insert}
 use Rattle.ordering.proofs.Pairs.{prior_earlier, earlier_prior, earlier_not}
 
 pub clash_sym : (K : Kind) → Laws K → (x y : Option Command) → Clash K x y → Clash K y x

@@ -1,16 +1,14 @@
 -- The tie between history and line after a hear, gather, settle or run: the phases move at one place, and the rest
 -- follows from that.
-use Rattle.std.proofs.Common.{◌≡◌, ℕ, suc, ◌<◌, ◌≤◌, Bool, true, false, cond, not, ◌||◌, eqb, ◌⊎◌, List, [], ◌∷◌, Some, None, Option, sym, refl, ap, ◌∙◌, subst, inl, inr, ⊎_elim}
-use Rattle.std.proofs.lemmas.Bool.{cases_eq, eqb-true, eqb-false, ne_eqb}
+use Rattle.std.proofs.Common.{◌≡◌, ℕ, Bool, true, false, cond, eqb, Some, Option, sym, refl, ap, ◌∙◌, subst}
+use Rattle.std.proofs.lemmas.Bool.{eqb-true, eqb-false}
 use Rattle.ordering.specs.declared.calls.Phase.{Phase}
-use Rattle.ordering.specs.declared.calls.Phase.TheVariants.{Sent, Heard, Gathered, Settled, Run}
-use Rattle.ordering.specs.Histories.{Account, Issue, put_twice}
-use Rattle.ordering.specs.Limits.{member_limit}
+use Rattle.ordering.specs.declared.calls.Phase.TheVariants.{Sent}
+use Rattle.ordering.specs.Histories.{Account, put_twice}
 use Rattle.ordering.specs.Lines.{OpenCommand, Book}
-use Rattle.ordering.specs.Ordering.{greatest_answer}
 use Rattle.ordering.specs.Searches.{put, names}
 use Rattle.ordering.proofs.Basics.{some_inj, put_same, put_other}
-use Rattle.ordering.proofs.Tied.{Tied, Moved, Agree, stage_of, phase_of, phase_by, phase_at, issue_of, agree_moved, cost_moved}
+use Rattle.ordering.proofs.Tied.{Tied, phase_of, phase_by, phase_at, issue_of}
 
 -- The table with e at k, where the command o stood, and e has o's phases but p at m.
 module _ (a : Account) (b : Book) (k m : ℕ) (o : OpenCommand) (p : Phase) (e : Option OpenCommand) (h : Tied a b) (there : b.table k ≡ Some o) (to : names o.set m ≡ true) (like : (q : ℕ) → names o.set q ≡ true → phase_at e q ≡ put m p o.phase q) where

@@ -1,5 +1,5 @@
 -- The order of pairs: the test says what the relation says, and of two pairs with different numbers one is earlier.
-use Rattle.std.proofs.Common.{◌≡◌, ℕ, ◌<◌, ◌≤◌, Bool, true, false, ◌&&◌, ◌||◌, eqb, ltb, ◌⊎◌, sym, refl, ◌∙◌, inl, inr, ⊎_elim, arith}
+use Rattle.std.proofs.Common.{◌≡◌, ◌<◌, ◌≤◌, true, false, ◌&&◌, eqb, ltb, ◌⊎◌, sym, inl, inr, ⊎_elim, arith}
 use Rattle.std.proofs.lemmas.Bool.{or_cases, or_parts, and_parts, and_cases, ltb-true, ltb-false, eqb-true, eqb-false, or_left, or_right, lt-ltb, eq-eqb, and_from, cases_lt}
 use Rattle.ordering.specs.Ordering.{Earlier}
 use Rattle.ordering.specs.Searches.{Pair, earlier}

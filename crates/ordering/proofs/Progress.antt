@@ -1,6 +1,6 @@
 -- There is always a next step: hear what is sent, gather what is heard, settle what is gathered, else the least pair is ready.
-use Rattle.std.proofs.Common.{◌≡◌, ℕ, suc, ◌<◌, ◌≤◌, Bool, true, false, cond, not, ◌&&◌, ◌||◌, eqb, ltb, ◌⊎◌, List, Some, None, Ok, Err, Option, sym, refl, ap, ◌∙◌, subst, inl, inr, ⊎_elim, arith}
-use Rattle.std.proofs.lemmas.Bool.{lt-ltb, cases_eq, eq-eqb, or_left, or_right, or_parts, not-false, and_parts, cases_Bool}
+use Rattle.std.proofs.Common.{◌≡◌, ℕ, suc, ◌<◌, ◌≤◌, Bool, true, false, cond, not, ◌&&◌, ◌||◌, eqb, Some, None, Ok, Err, Option, sym, refl, ap, ◌∙◌, subst, ⊎_elim, arith}
+use Rattle.std.proofs.lemmas.Bool.{lt-ltb, cases_eq, eq-eqb, or_left, or_right, or_parts, not-false, and_parts}
 use Rattle.machine.specs.declared.command.Command.{Command}
 use Rattle.machine.specs.Kinds.{Kind}
 use Rattle.ordering.specs.declared.calls.Call.TheVariants.{Hear, Gather, Settle, Run as RunCall}
@@ -8,21 +8,21 @@ use Rattle.ordering.specs.declared.calls.Phase.{Phase}
 use Rattle.ordering.specs.declared.calls.Phase.TheVariants.{Sent, Heard, Gathered, Settled, Run}
 use Rattle.ordering.specs.declared.calls.Refusal.{Refusal}
 use Rattle.ordering.specs.declared.calls.Refusal.TheVariants.{NoMember}
-use Rattle.ordering.specs.Histories.{Account, Issue, Event, hearing, gathering, settling, running}
+use Rattle.ordering.specs.Histories.{Account, Issue, hearing, gathering, settling, running}
 use Rattle.ordering.specs.Kept.{Sound, is_settled}
 use Rattle.ordering.specs.Limits.{member_limit}
-use Rattle.ordering.specs.Lines.{OpenCommand, Book, Line, opened, is_gathered, standing, stands_by}
-use Rattle.ordering.specs.Ordering.{To, RanAt, has, NextStep}
-use Rattle.ordering.specs.Searches.{Pair, names, present, any_below, earlier, earliest_below}
-use Rattle.ordering.specs.Steps.{Outcome, demand, Ran, destined, reach, hear, hear_at, hear_in, gather, gather_at, gather_in, settle, settle_at, settle_in, run, run_earliest, run_taken, ready_at, ready_if, settled_as, final_if, passes, passes_at, unhindered, heard_now, hearer, gathered_now, settled_now, settler, with_phase}
+use Rattle.ordering.specs.Lines.{OpenCommand, Book, opened, is_gathered, standing, stands_by}
+use Rattle.ordering.specs.Ordering.{To, RanAt, NextStep}
+use Rattle.ordering.specs.Searches.{Pair, names, any_below, earlier, earliest_below}
+use Rattle.ordering.specs.Steps.{demand, destined, reach, hear, hear_at, hear_in, gather, gather_at, gather_in, settle, settle_at, settle_in, run_earliest, run_taken, ready_at, ready_if, settled_as, final_if, passes, passes_at, heard_now, hearer, gathered_now, settled_now, settler, with_phase}
 use Rattle.ordering.specs.Worlds.{book_turn, run_turn}
 use Rattle.ordering.proofs.Basics.{some_inj, none_some, false_true}
 use Rattle.ordering.proofs.Bits.{names_below}
 use Rattle.ordering.proofs.Bounded.{any_found, any_none, all_not, all_from}
 use Rattle.ordering.proofs.Pairs.{prior_earlier, true_earlier}
-use Rattle.ordering.proofs.Ready.{earliest_found, earliest_least, earliest_some, Ready, facts_ready}
-use Rattle.ordering.proofs.Standing.{fixed_by_settled, phase_here, agree_here}
-use Rattle.ordering.proofs.Tied.{Tied, Agree, stage_of, phase_of, phase_by, phase_at, issue_of}
+use Rattle.ordering.proofs.Ready.{earliest_found, earliest_least, earliest_some, facts_ready}
+use Rattle.ordering.proofs.Standing.{fixed_by_settled, agree_here}
+use Rattle.ordering.proofs.Tied.{Tied, Agree, stage_of, phase_by, phase_at, issue_of}
 
 module _ (K : Kind) (b : Book) (s : Sound b) where
   -- an open command and one of its destinations

@@ -1,5 +1,5 @@
 -- From what is kept at each member to the cells and the order of the theorem.
-use Rattle.std.proofs.Common.{◌≡◌, ℕ, suc, ◌<◌, ◌≤◌, Bool, true, false, cond, ◌||◌, eqb, ◌⊎◌, List, [], ◌∷◌, Some, None, Option, sym, refl, ap, ◌∙◌, subst, inl, inr, ⊎_elim, arith}
+use Rattle.std.proofs.Common.{◌≡◌, ℕ, ◌<◌, ◌≤◌, Bool, true, false, cond, eqb, List, [], ◌∷◌, Some, None, Option, sym, refl, ap, ◌∙◌, subst, inl, inr, ⊎_elim, arith}
 use Rattle.std.proofs.lemmas.Bool.{or_cases, eqb-true}
 use Rattle.machine.specs.declared.command.Command.{Command}
 use Rattle.machine.specs.Kinds.{Kind, Laws}
@@ -16,7 +16,7 @@ use Rattle.ordering.proofs.Feeding.{each_map}
 use Rattle.ordering.proofs.MemberSteps.{clash_sym}
 use Rattle.ordering.proofs.Pairs.{earlier_prior, earlier_not}
 use Rattle.ordering.proofs.Standing.{Inv, command_of, command_by, stand_of, settled_all}
-use Rattle.ordering.proofs.Tied.{Tied, Agree, Stage, stage_of, phase_of}
+use Rattle.ordering.proofs.Tied.{Agree, Stage, stage_of, phase_of}
 
 -- What ran was settled, and what was gathered was heard.
 agree_ran : (p : Phase) (s : Stage) → Agree p s → s.ran ≡ true → s.settled ≡ true

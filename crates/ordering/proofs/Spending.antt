@@ -1,11 +1,11 @@
 -- The cost: each accepted step moves one destination one phase on, and there are four phases to go at each.
-use Rattle.std.proofs.Common.{◌≡◌, ℕ, zero, suc, ◌+◌, ◌*◌, ◌<◌, ◌≤◌, Bool, true, false, cond, ◌↔◌, List, Some, None, Option, sym, refl, ap, ◌∙◌, subst, arith}
+use Rattle.std.proofs.Common.{◌≡◌, ℕ, zero, suc, ◌+◌, ◌*◌, ◌<◌, ◌≤◌, Bool, true, false, cond, Some, sym, refl, ap, ◌∙◌, subst, arith}
 use Rattle.ordering.specs.declared.calls.Phase.{Phase}
 use Rattle.ordering.specs.declared.calls.Phase.TheVariants.{Sent, Heard, Gathered, Settled, Run}
 use Rattle.ordering.specs.Histories.{Account, Issue}
 use Rattle.ordering.specs.Limits.{member_limit}
 use Rattle.ordering.specs.Lines.{Book}
-use Rattle.ordering.specs.Ordering.{To, RanAt, Cost, destination_count}
+use Rattle.ordering.specs.Ordering.{Cost, destination_count}
 use Rattle.ordering.specs.Searches.{names, count_below, sum_below}
 use Rattle.ordering.proofs.Basics.{false_true}
 use Rattle.ordering.proofs.Bounded.{below_more}

@@ -1,12 +1,12 @@
 -- Where each command stands at each member, by the history, and what the line says of one that stands and has not run.
-use Rattle.std.proofs.Common.{◌≡◌, ℕ, suc, ◌<◌, ◌≤◌, Bool, true, false, cond, not, ◌||◌, ◌⊎◌, List, [], ◌∷◌, Some, None, Option, sym, refl, ap, ◌∙◌, subst, inl, inr, ⊎_elim}
+use Rattle.std.proofs.Common.{◌≡◌, ℕ, Bool, true, false, cond, List, Some, None, Option, sym, refl, ap, ◌∙◌, subst}
 use Rattle.machine.specs.declared.command.Command.{Command}
 use Rattle.machine.specs.Kinds.{Kind}
 use Rattle.ordering.specs.declared.calls.Phase.{Phase}
 use Rattle.ordering.specs.declared.calls.Phase.TheVariants.{Sent, Heard, Gathered, Settled, Run}
 use Rattle.ordering.specs.Histories.{Account, Issue}
 use Rattle.ordering.specs.Kept.{Sound, is_past, is_settled}
-use Rattle.ordering.specs.Lines.{OpenCommand, Book, standing, stands_by}
+use Rattle.ordering.specs.Lines.{OpenCommand, Book, stands_by}
 use Rattle.ordering.specs.Ordering.{has, greatest_answer, To}
 use Rattle.ordering.specs.Searches.{names, present}
 use Rattle.ordering.proofs.AtMember.{AtMember}

@@ -1,5 +1,5 @@
 -- Calls with their answers, and what is read from them.
-use Rattle.std.specs.Prelude.{ℕ, suc, Bool, true, false, ◌||◌, eqb, List, [], ◌∷◌, Some, None, Ok, Err, Option}
+use Rattle.std.specs.Prelude.{ℕ, suc, Bool, true, false, List, [], ◌∷◌, Some, None, Ok, Err, Option}
 use Rattle.machine.specs.declared.command.Command.{Command}
 use Rattle.ordering.specs.Searches.{Pair, put}
 use Rattle.ordering.specs.Steps.{Outcome}

@@ -4,7 +4,7 @@ use Rattle.machine.specs.declared.command.Command.{Command}
 use Rattle.ordering.specs.declared.calls.Phase.{Phase}
 use Rattle.ordering.specs.declared.calls.Phase.TheVariants.{Sent, Heard, Gathered, Settled, Run}
 use Rattle.ordering.specs.Limits.{member_limit}
-use Rattle.ordering.specs.Lines.{OpenCommand, Member, Book, Line, closed, opened, is_gathered, is_run, everywhere}
+use Rattle.ordering.specs.Lines.{OpenCommand, Book, Line, closed, opened, is_gathered, is_run, everywhere}
 use Rattle.ordering.specs.Searches.{names, present, sum_below}
 
 -- An open command has a destination that has not run; no remembered number is above the count issued; no clock

@@ -1,7 +1,7 @@
 -- The ordering theorem, read from the calls, their answers and the stations' cells alone.
 use Rattle.std.specs.Prelude.{◌≡◌, ℕ, ◌*◌, ◌<◌, ◌≤◌, Bool, true, false, ◌||◌, ◌⊎◌, ◌↔◌, List, [], ◌∷◌, Some, None, Ok, Err, Option, ◌==◌}
 use Rattle.machine.specs.declared.command.Command.{Command}
-use Rattle.machine.specs.Kinds.{Kind, Laws}
+use Rattle.machine.specs.Kinds.{Kind}
 use Rattle.ordering.specs.declared.calls.Call.{Call}
 use Rattle.ordering.specs.Histories.{Event, opening, sending, hearing, gathering, settling, running, Account, Issue, read}
 use Rattle.ordering.specs.Limits.{member_limit}

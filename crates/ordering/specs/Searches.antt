@@ -1,5 +1,5 @@
 -- Questions over the numbers below a bound, and functions changed at one place.
-use Rattle.std.specs.Prelude.{ℕ, zero, suc, ◌+◌, ◌/◌, ◌%◌, ◌^◌, max, Bool, true, false, cond, not, ◌&&◌, ◌||◌, Some, None, Option, ◌==◌, nat_lt}
+use Rattle.std.specs.Prelude.{ℕ, zero, suc, ◌+◌, ◌/◌, ◌%◌, ◌^◌, max, Bool, true, false, cond, ◌&&◌, ◌||◌, Some, None, Option, ◌==◌, nat_lt}
 
 -- f, but x at i.
 abbrev pub put : {X : Type 0} → ℕ → X → (ℕ → X) → ℕ → X

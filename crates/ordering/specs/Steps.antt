@@ -5,7 +5,7 @@ use Rattle.machine.specs.Kinds.{Kind}
 use Rattle.ordering.specs.declared.calls.Phase.{Phase}
 use Rattle.ordering.specs.declared.calls.Phase.TheVariants.{Sent, Heard, Gathered, Settled, Run}
 use Rattle.ordering.specs.declared.calls.Refusal.{Refusal}
-use Rattle.ordering.specs.declared.calls.Refusal.TheVariants.{AlreadyOpen, BadMemberCount, BadLastNumber, Closed, NoMember, BadSet, NumbersUsedUp, TableFull, NoCommand, NoDestination, TooEarly, AlreadyDone, NothingReady}
+use Rattle.ordering.specs.declared.calls.Refusal.TheVariants.{BadMemberCount, BadLastNumber, NoMember, BadSet, NumbersUsedUp, TableFull, NoCommand, NoDestination, TooEarly, AlreadyDone, NothingReady}
 use Rattle.ordering.specs.Limits.{member_limit, open_limit, memory_limit, number_limit}
 use Rattle.ordering.specs.Lines.{OpenCommand, Member, Book, open_count, held_count, is_gathered, is_run, everywhere, greatest_proposal, standing}
 use Rattle.ordering.specs.Searches.{Pair, put, names, present, any_below, all_below, earlier, earliest_below}

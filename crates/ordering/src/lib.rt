@@ -1,4 +1,6 @@
 //! The vocabulary of a line, the model of it, and the ordering theorem.
+#![tactic(auto)]
+
 pub mod calls;
 pub mod cases;
 pub mod kept;

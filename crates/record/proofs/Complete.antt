@@ -1,5 +1,5 @@
 -- What stands there is cut: the relations of specs/Rfc4180 fix the answers of specs/Cut.
-use Rattle.std.proofs.Common.{◌≡◌, ℕ, zero, suc, ◌+◌, ◌-◌, ◌<◌, ◌≤◌, Bool, true, false, cond, ◌&&◌, eqb, List, [], ◌∷◌, ◌++◌, length, get_or, take, drop, Ok, Err, Result, sym, refl, ap, ◌∙◌, subst, append_assoc, add-zero, add_assoc, add-one, one-add, arith}
+use Rattle.std.proofs.Common.{◌≡◌, ℕ, zero, suc, ◌+◌, ◌<◌, Bool, true, false, cond, ◌&&◌, eqb, List, [], ◌∷◌, ◌++◌, length, get_or, take, drop, Ok, Err, sym, refl, ap, ◌∙◌, append_assoc, add-zero, one-add, arith}
 use Rattle.std.specs.List.{prefix_len}
 use Rattle.std.proofs.lemmas.List.{take_at, drop_at, drop_all, take_rest, length-append}
 use Rattle.std.proofs.lemmas.Bool.{ne_eqb, eqb-true, and_parts, cond-false}
@@ -8,9 +8,8 @@ use Rattle.record.specs.declared.FieldEnd.{FieldEnd}
 use Rattle.record.specs.declared.FieldEnd.TheVariants.{Comma, Last}
 use Rattle.record.specs.declared.RecordEnd.{RecordEnd}
 use Rattle.record.specs.declared.RecordEnd.TheVariants.{CrLf, Script}
-use Rattle.record.specs.declared.TextFault.{TextFault}
 use Rattle.record.specs.Bytes.{Piece, piece, textdata, field_end_bytes, record_end_bytes}
-use Rattle.record.specs.Cut.{FieldSeen, Cutting, Ended, fault_at, ended, onwards, closed, inside, quoted_field, plain_field, cut_field, behind, step, cut_by, cut_record}
+use Rattle.record.specs.Cut.{Cutting, fault_at, ended, onwards, closed, inside, quoted_field, plain_field, cut_field, behind, step, cut_by, cut_record}
 use Rattle.record.specs.Rfc4180.{PlainText, QuotedText, FieldIs, RecordIs, FieldStands, Stands, EndsNone, FieldFault, RecordFault}
 use Rattle.record.specs.Rfc4180.PlainText.{none, more}
 use Rattle.record.specs.Rfc4180.QuotedText.{nothing, other, doubled}

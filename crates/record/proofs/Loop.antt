@@ -10,7 +10,7 @@ use Rattle.record.specs.declared.RecordEnd.TheVariants.{CrLf, Script}
 use Rattle.record.specs.declared.TextFault.{TextFault}
 use Rattle.record.specs.declared.Field.{Field}
 use Rattle.record.specs.Bytes.{Piece, piece_of, field_end_bytes}
-use Rattle.record.specs.Cut.{FieldSeen, Cutting, Ended, cut_field, cut_by, cut_record, answer, placed, step, go_on, Within}
+use Rattle.record.specs.Cut.{FieldSeen, Cutting, cut_field, cut_by, cut_record, answer, placed, step, go_on, Within}
 use Rattle.record.specs.Rfc4180.{RecordAnswer}
 use Rattle.record.proofs.Sound.{Found, field_sound, field_faulty}
 use Rattle.record.proofs.Theorem.{record_answer}

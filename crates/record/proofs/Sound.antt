@@ -1,16 +1,15 @@
 -- What is cut stands there: the answers of specs/Cut meet the relations of specs/Rfc4180.
-use Rattle.std.proofs.Common.{◌≡◌, ℕ, zero, suc, ◌+◌, ◌-◌, ◌<◌, ◌≤◌, Bool, true, false, cond, ◌&&◌, eqb, List, [], ◌∷◌, ◌++◌, length, get_or, take, drop, Ok, Err, Result, sym, refl, ap, ◌∙◌, subst, append_assoc, add-zero, add_assoc, add-one, one-add, arith}
+use Rattle.std.proofs.Common.{◌≡◌, ℕ, zero, suc, ◌+◌, ◌<◌, ◌≤◌, Bool, true, false, cond, ◌&&◌, eqb, List, [], ◌∷◌, ◌++◌, length, get_or, take, drop, Ok, Err, Result, sym, refl, ap, ◌∙◌, subst, append_assoc, add-zero, one-add, arith}
 use Rattle.std.specs.List.{prefix_len}
 use Rattle.std.proofs.lemmas.List.{take-append-drop, length-take-le, length-append, length-drop, take_all, nil_from_length}
 use Rattle.std.proofs.lemmas.List.Sums.{prefix_len-le-length}
 use Rattle.std.proofs.lemmas.Bool.{cond_both, eqb-true, eqb-false, and_parts, both_ways}
 use Rattle.record.specs.declared.FieldEnd.{FieldEnd}
 use Rattle.record.specs.declared.FieldEnd.TheVariants.{Comma, Last}
-use Rattle.record.specs.declared.RecordEnd.{RecordEnd}
 use Rattle.record.specs.declared.RecordEnd.TheVariants.{CrLf, Script}
 use Rattle.record.specs.declared.TextFault.{TextFault}
-use Rattle.record.specs.Bytes.{Piece, piece, textdata, field_end_bytes, record_end_bytes}
-use Rattle.record.specs.Cut.{FieldSeen, Cutting, Ended, ended, onwards, closed, inside, quoted_field, plain_field, cut_field, behind, go_on, step, cut_by, fault_at}
+use Rattle.record.specs.Bytes.{Piece, piece, textdata, field_end_bytes}
+use Rattle.record.specs.Cut.{FieldSeen, Ended, ended, onwards, closed, inside, quoted_field, plain_field, cut_field, go_on, step, cut_by, fault_at}
 use Rattle.record.specs.Rfc4180.{PlainText, QuotedText, FieldIs, RecordIs, FieldStands, Stands, EndsNone, FieldFault, RecordFault}
 use Rattle.record.specs.Rfc4180.PlainText.{none, more}
 use Rattle.record.specs.Rfc4180.QuotedText.{nothing, other, doubled}

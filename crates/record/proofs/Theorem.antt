@@ -1,12 +1,12 @@
 -- The answers and the records that stand in the text: each fixes the other.
-use Rattle.std.proofs.Common.{◌≡◌, ℕ, suc, ◌+◌, List, [], ◌∷◌, ◌++◌, length, Ok, Err, Result, sym, refl, ap, ◌∙◌, subst, arith}
+use Rattle.std.proofs.Common.{◌≡◌, ℕ, suc, List, length, Ok, Err, Result, sym, refl, ap, ◌∙◌, subst, arith}
 use Rattle.record.specs.declared.Cut.{Cut}
 use Rattle.record.specs.declared.RecordEnd.{RecordEnd}
 use Rattle.record.specs.declared.TextFault.{TextFault}
-use Rattle.record.specs.Bytes.{Piece, piece, record_end_bytes}
-use Rattle.record.specs.Cut.{FieldSeen, Cutting, Ended, cut_field, cut_by, cut_record, answered, answer, placed}
+use Rattle.record.specs.Bytes.{Piece}
+use Rattle.record.specs.Cut.{FieldSeen, Cutting, Ended, cut_field, cut_record, answered, answer, placed}
 use Rattle.record.specs.Rfc4180.{Stands, RecordFault, FieldAnswer, RecordAnswer}
-use Rattle.record.proofs.Sound.{Found, field_sound, field_faulty, StandsIf, record_good}
+use Rattle.record.proofs.Sound.{field_sound, field_faulty, StandsIf, record_good}
 use Rattle.record.proofs.Complete.{field_stands_cut, field_fault_cut, cut_to, stands_cut, fault_cut}
 
 pub field_answer : (at : ℕ) (bs : List ℕ) (r : Result FieldSeen TextFault) → r ≡ cut_field bs at → FieldAnswer at bs r

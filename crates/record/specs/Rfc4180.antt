@@ -4,9 +4,9 @@ use Rattle.std.specs.Prelude.{◌≡◌, ℕ, ◌+◌, true, false, ◌≢◌, L
 use Rattle.record.specs.declared.Cut.{Cut}
 use Rattle.record.specs.declared.TextFault.{TextFault}
 use Rattle.record.specs.declared.FieldEnd.{FieldEnd}
-use Rattle.record.specs.declared.FieldEnd.TheVariants.{Comma, Last}
+use Rattle.record.specs.declared.FieldEnd.TheVariants.{Last}
 use Rattle.record.specs.declared.RecordEnd.{RecordEnd}
-use Rattle.record.specs.declared.RecordEnd.TheVariants.{CrLf, Script}
+use Rattle.record.specs.declared.RecordEnd.TheVariants.{Script}
 use Rattle.record.specs.Bytes.{textdata, Piece, piece, field_end_bytes, record_end_bytes}
 use Rattle.record.specs.Cut.{FieldSeen, placed}
 

@@ -1,4 +1,5 @@
 //! Cuts RFC 4180 text into records: one record a call, and each field a part of the text, never a copy.
+#![tactic(auto)]
 
 mod fields;
 mod records;

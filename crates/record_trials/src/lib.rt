@@ -1,4 +1,5 @@
 //! Records worked out by hand, cut by the crate `record`.
+#![tactic(auto)]
 
 #[cfg(test)]
 mod tests {

@@ -1,4 +1,5 @@
 //! Scripts whose traces and faults were worked out by hand, run by the crate `runner`.
+#![tactic(auto)]
 
 #[cfg(test)]
 mod tests {

@@ -15,7 +15,7 @@ use Rattle.script.specs.declared.steps.Step.{Step}
 use Rattle.script.specs.Fields.{Read, any_number, empty, fault, kind_of, kind_or, number_or, up_to, up_to_or}
 use Rattle.script.specs.Numbers.{numeral}
 use Rattle.script.specs.Steps.{Pieces, and_then, asks, axis_and_word, blank, command_by, command_of, destination_of, letter_of, named_step, open_step, run_step, send_step, step_by, two_axes, word_alone}
-use Rattle.script.specs.Texts.{CommandText, StepText, couple, gathers, hears, kind_number, mark, opens, runs, sends, set, settles, shift, texts}
+use Rattle.script.specs.Texts.{CommandText, StepText, couple, gathers, hears, kind_number, mark, opens, runs, sends, set, settles, shift}
 use Rattle.script.proofs.Numerals.{reads_numeral}
 
 -- What is read, if it is read, has the property.

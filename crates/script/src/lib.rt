@@ -1,4 +1,6 @@
 //! The steps of a script: from the fields of one record to one call of a line.
+#![tactic(auto)]
+
 pub mod faults;
 mod fields;
 pub mod numbers;

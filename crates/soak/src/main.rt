@@ -1,4 +1,6 @@
 //! Many commands through one line, with every place of the line in use, and what was counted.
+#![tactic(auto)]
+
 mod counts;
 mod drive;
 mod load;

@@ -1,14 +1,13 @@
 -- A whole list of calls, one call at a time.
-use Rattle.std.proofs.Common.{◌≡◌, ℕ, zero, suc, ◌+◌, ◌<◌, ◌≤◌, Bool, true, false, cond, eqb, List, [], ◌∷◌, ◌++◌, map, reverse, length, get_or, take, drop, set, Some, None, Option, sym, refl, ap, ◌∙◌, subst, append_assoc, add-one, arith, length-append, drop-cons}
-use Rattle.std.proofs.lemmas.List.{map-append, reverse-append, take_all, take-append-le, take_more, drop_all}
-use Rattle.std.proofs.lemmas.Bool.{eqb-true}
+use Rattle.std.proofs.Common.{◌≡◌, ℕ, zero, suc, ◌+◌, ◌<◌, ◌≤◌, List, [], ◌∷◌, ◌++◌, map, reverse, length, get_or, take, drop, set, sym, refl, ap, ◌∙◌, subst, append_assoc, add-one, arith, length-append, drop-cons}
+use Rattle.std.proofs.lemmas.List.{map-append, reverse-append, take_all, take-append-le, drop_all}
 use Rattle.machine.specs.Kinds.{Kind, Laws}
 use Rattle.ordering.proofs.Always.{ordered_always}
 use Rattle.ordering.specs.Answering.{answer_of}
 use Rattle.ordering.specs.declared.calls.Answer.{Answer}
 use Rattle.ordering.specs.declared.calls.Call.{Call}
 use Rattle.ordering.specs.Lines.{Line}
-use Rattle.ordering.specs.Worlds.{World, after, step, moved}
+use Rattle.ordering.specs.Worlds.{after, step, moved}
 use Rattle.stations.specs.Held.{AskedAll}
 use Rattle.stations.proofs.Together.{moved_alike}
 use Rattle.stations.specs.Played.{played, answers_to, Played}

@@ -1,5 +1,5 @@
 -- A whole list of calls on a new line with fresh stations.
-use Rattle.std.specs.Prelude.{◌≡◌, ℕ, ◌<◌, List, [], ◌∷◌, ◌++◌, map, reverse, length, take, drop}
+use Rattle.std.specs.Prelude.{◌≡◌, ℕ, ◌<◌, List, ◌++◌, map, reverse, length, take, drop}
 use Rattle.machine.specs.Kinds.{Kind}
 use Rattle.ordering.specs.Answering.{answer_of}
 use Rattle.ordering.specs.declared.calls.Answer.{Answer}

@@ -1,4 +1,6 @@
 //! The stations of a line as one value, and a whole list of calls on a new line.
+#![tactic(auto)]
+
 pub mod axis_stations;
 pub mod interface;
 pub mod play;

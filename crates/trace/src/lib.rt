@@ -1,4 +1,5 @@
 //! The records of a trace, as RFC 4180 text in the caller's bytes.
+#![tactic(auto)]
 
 mod records;
 mod writing;

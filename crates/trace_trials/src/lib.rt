@@ -1,4 +1,5 @@
 //! Records of a trace worked out by hand, written by the crate `trace`.
+#![tactic(auto)]
 
 #[cfg(test)]
 mod tests {

@@ -1,8 +1,6 @@
-use Rattle.std.proofs.Common.{length, Some, sym, refl, ap, ◌∙◌}
+use Rattle.std.proofs.Common.{length, sym, refl, ap, ◌∙◌}
 use Rattle.std.proofs.lemmas.Option.{slice_get_read}
-use Rattle.std.specs.List.{slice_get}
 use Rattle.open_commands.specs.Places.{ready_in}
-use Rattle.open_commands.specs.Views.{view_open}
 use Rattle.open_commands.proofs.Best.{best_skip, best_keep, best_blocked, best_take}
 use Rattle.open_commands.proofs.table.better.Goals as goal
 

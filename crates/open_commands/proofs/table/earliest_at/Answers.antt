@@ -1,4 +1,4 @@
-use Rattle.std.proofs.Common.{◌≤◌, length, subst, le_antisymm, arith}
+use Rattle.std.proofs.Common.{subst, arith}
 use Rattle.open_commands.specs.Places.{BestTo}
 use Rattle.open_commands.proofs.table.earliest_at.Goals as goal
 

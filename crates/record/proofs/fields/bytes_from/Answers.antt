@@ -1,4 +1,4 @@
-use Rattle.std.proofs.Common.{length, ap, ◌∙◌, arith, length-drop}
+use Rattle.std.proofs.Common.{length, ap, arith, length-drop}
 use Rattle.record.proofs.Arms.{bytes_from_is}
 use Rattle.record.proofs.fields.bytes_from.Goals as goal
 

@@ -1,8 +1,7 @@
-use Rattle.std.proofs.Common.{◌≡◌, ◌<◌, ◌≤◌, [], ◌∷◌, ◌++◌, length, get_or, take, sym, ◌∙◌, subst, arith}
+use Rattle.std.proofs.Common.{◌≡◌, ◌<◌, ◌≤◌, [], ◌∷◌, ◌++◌, length, get_or, take, sym, subst}
 use Rattle.std.proofs.lemmas.List.{take_more, take_all, length-take-le}
 use Rattle.line.specs.Books.{view_line}
 use Rattle.ordering.specs.declared.calls.Call.TheVariants.{Open}
-use Rattle.stations.specs.Played.{Played}
 use Rattle.stations.proofs.Playing.{SoFar, none_made, one_more_lem, no_room, all_made}
 use Rattle.stations.proofs.play.play.Goals as goal
 use Rattle.stations.proofs.play.play.Goals.{then-i-answers, else-i-answers}

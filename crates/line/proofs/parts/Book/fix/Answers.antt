@@ -1,4 +1,4 @@
-use Rattle.std.proofs.Common.{sym, ap, ◌∙◌}
+use Rattle.std.proofs.Common.{ap, ◌∙◌}
 use Rattle.line.specs.Books.{with_place}
 use Rattle.open_commands.specs.Views.{view_open, with_fixed_in}
 use Rattle.line.proofs.Reaching.{read_same}

@@ -1,4 +1,4 @@
-use Rattle.std.proofs.Common.{sym, refl, ap, ◌∙◌, subst}
+use Rattle.std.proofs.Common.{refl, ap}
 use Rattle.std.proofs.lemmas.Result.{err_from_is_err_and}
 use Rattle.line.proofs.BookSteps.{at_of, at_place, read, hear_refused}
 use Rattle.line.proofs.Matching.{matched, hear_fits, hear_answer_lem}

@@ -1,4 +1,4 @@
-use Rattle.std.proofs.Common.{◌<◌, ◌≤◌, length, sym, ap, ◌∙◌, arith}
+use Rattle.std.proofs.Common.{◌<◌, ◌≤◌, ◌∙◌, arith}
 use Rattle.line.specs.Books.{live}
 use Rattle.open_commands.specs.Views.{number_of}
 use Rattle.open_commands.proofs.Keyed.{lookup_place}

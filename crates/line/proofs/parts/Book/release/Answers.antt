@@ -1,4 +1,4 @@
-use Rattle.std.proofs.Common.{sym, refl, ap, ◌∙◌}
+use Rattle.std.proofs.Common.{sym, ap, ◌∙◌}
 use Rattle.open_commands.specs.Views.{view_open}
 use Rattle.line.proofs.Releasing.{released, kept}
 use Rattle.line.proofs.Reaching.{read_same}

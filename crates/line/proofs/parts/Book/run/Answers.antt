@@ -1,7 +1,6 @@
-use Rattle.std.proofs.Common.{◌<◌, Ok, Err, sym, refl, ap, ◌∙◌, subst}
+use Rattle.std.proofs.Common.{◌<◌, sym, refl, ap, ◌∙◌, subst}
 use Rattle.line.specs.Books.{view_book}
 use Rattle.line.proofs.BookRun.{run_none, run_fits, run_answer_lem, place_at}
-use Rattle.ordering.specs.declared.calls.Refusal.TheVariants.{NothingReady}
 use Rattle.ordering.specs.Steps.{run}
 use Rattle.line.proofs.parts.Book.run.Goals as goal
 

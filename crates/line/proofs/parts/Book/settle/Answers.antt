@@ -1,4 +1,4 @@
-use Rattle.std.proofs.Common.{sym, refl, ap, ◌∙◌}
+use Rattle.std.proofs.Common.{refl, ap}
 use Rattle.std.proofs.lemmas.Result.{err_from_is_err_and}
 use Rattle.open_commands.specs.declared.phases.Step.TheVariants.{Settle}
 use Rattle.line.proofs.BookSteps.{at_of, at_place, read, settle_refused}

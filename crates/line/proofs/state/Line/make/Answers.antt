@@ -1,7 +1,7 @@
 use Rattle.std.proofs.Common.{refl}
 use Rattle.line.specs.Books.{view_line}
 use Rattle.line.proofs.Asking.{asked_still, asked_run, still_open, still_send, still_hear, still_gather, still_settle, kept_open, kept_send, kept_hear, kept_gather, kept_settle, kept_run, untouched}
-use Rattle.ordering.specs.declared.calls.Call.TheVariants.{Open, Send, Hear, Gather, Settle, Run}
+use Rattle.ordering.specs.declared.calls.Call.TheVariants.{Open, Send, Hear, Gather, Settle}
 use Rattle.ordering.specs.Histories.{opening, sending, hearing, gathering, settling, running}
 use Rattle.line.proofs.state.Line.make.Goals as goal
 
