@@ -35,7 +35,7 @@ abbrev pub onwards : ℕ → List ℕ → List ℕ
 onwards k bs = take (length bs - k) (drop k bs)
 
 -- What ends a field, plain or quoted, by the bytes behind it: a comma, CR LF, or the end of the script. Any other byte is a fault.
--- (Past the end `get_or` gives 0, which is none of these bytes.)
+-- (Past the end `slice_index` gives 0, which is none of these bytes.)
 abbrev pub closed : Piece → List ℕ → ℕ → Result FieldSeen TextFault
 closed p bs at =
     cond (slice_index bs 0 == 44) (ended p Comma (onwards 1 bs) (at + 1))
@@ -90,7 +90,7 @@ abbrev pub step : (List ℕ → ℕ → Cutting) → Result FieldSeen TextFault 
 step more (Err f) = record { pieces = []; outcome = Err f }
 step more (Ok s) = go_on more s.end s
 
--- At most `fuel` fields; a record has fewer than two more than it has bytes, so `cutRecord` gives enough.
+-- At most `fuel` fields; a record has fewer than two more than it has bytes, so `cut_record` gives enough.
 abbrev pub cut_by : ℕ → List ℕ → ℕ → Cutting
 cut_by zero bs at = record { pieces = []; outcome = Err (fault_at at) }
 cut_by (suc fuel) bs at = step (cut_by fuel) (cut_field bs at)

@@ -198,7 +198,9 @@ mod tests {
     fn one_field(rt: HostRuntime) -> Result<(), Fail> {
         match cut_field(b"x,\"y\"\r\nz", 2) {
             Ok(cut) => {
-                assert!(rt; is(&cut.field, b"y", 2) && cut.rest == b"z" && cut.next == 7);
+                assert!(rt;
+                    is(&cut.field, b"y", 2) && cut.rest == b"z".as_slice() && cut.next == 7
+                );
                 assert_eq!(rt; cut.end, FieldEnd::Last(RecordEnd::CrLf));
                 Ok(())
             }
