@@ -4,11 +4,11 @@ use Rattle.line.specs.Promises.{cells_after}
 use Rattle.machine.specs.Kinds.{Kind}
 use Rattle.ordering.specs.Answering.{answer_of}
 use Rattle.ordering.specs.declared.calls.Answer.{Answer}
-use Rattle.ordering.specs.declared.calls.Answer.TheVariants.{Opened, Issued, Proposed, Fixed, Clock, Ran, Refused}
 use Rattle.ordering.specs.declared.calls.Call.{Call}
 use Rattle.ordering.specs.declared.calls.Call.TheVariants.{Open, Send, Hear, Gather, Settle, Run}
 use Rattle.ordering.specs.Lines.{Line}
 use Rattle.ordering.specs.Ordering.{Ordered}
+use Rattle.ordering.specs.Steps.{Outcome}
 use Rattle.ordering.specs.Worlds.{after, step}
 
 -- A run is for the station that is given, whose member is m.
@@ -21,20 +21,10 @@ call_at (Settle q k) m = Settle q k
 call_at (Run q) m = Run m
 
 -- The call answers r, and leaves the line and the cells of the station as the step has them.
-pub record Asked (K : Kind) (l : Line) (c : Call) (s : List ℕ) (r : Answer) (l' : Line) (s' : List ℕ) : Type 0 where
+pub record Asked (K : Kind) (l : Line) (c : Call) (s : List ℕ) (r : Outcome Answer) (l' : Line) (s' : List ℕ) : Type 0 where
   pub answer : answer_of (step K l c).event ≡ r
   pub line : (step K l c).line ≡ l'
   pub cells : cells_after K (step K l c).move s ≡ s'
-
--- A refusal leaves the value as it was.
-abbrev pub KeptAs : {X : Type 0} → Answer → X → X → Type 0
-KeptAs Opened x x' = Unit {0}
-KeptAs (Issued k) x x' = Unit {0}
-KeptAs (Proposed t) x x' = Unit {0}
-KeptAs (Fixed f) x x' = Unit {0}
-KeptAs (Clock t) x x' = Unit {0}
-KeptAs (Ran p) x x' = Unit {0}
-KeptAs (Refused e) x x' = x' ≡ x
 
 -- The list of calls, the latest first, leads a new line to l and the fresh station of member m to the cells s.
 pub record Leads (K : Kind) (cs : List Call) (l : Line) (m : ℕ) (s : List ℕ) : Type 0 where
@@ -42,7 +32,7 @@ pub record Leads (K : Kind) (cs : List Call) (l : Line) (m : ℕ) (s : List ℕ)
   pub cells : (after K cs).cells m ≡ s
 
 -- One call more leads on, and the whole ordering theorem holds of the calls and their answers.
-pub record LeadsOn (K : Kind) (c : Call) (cs : List Call) (l : Line) (m : ℕ) (s : List ℕ) (r : Answer) : Type 0 where
+pub record LeadsOn (K : Kind) (c : Call) (cs : List Call) (l : Line) (m : ℕ) (s : List ℕ) (r : Outcome Answer) : Type 0 where
   pub leads : Leads K (c ∷ cs) l m s
   pub answer : answer_of (step K (after K cs).line c).event ≡ r
   pub ordered : Ordered K (after K (c ∷ cs))

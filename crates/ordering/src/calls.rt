@@ -49,38 +49,38 @@ pub enum Phase {
     Run,
 }
 
-/// Why a call is refused.
+/// Why a call is refused, by number.
 #[derive(Clone, Copy, PartialEq, Eq, Debug)]
 pub enum Refusal {
     /// The line is open already.
-    AlreadyOpen,
+    AlreadyOpen = 1,
     /// The member count is not 1 to 16.
-    BadMemberCount,
+    BadMemberCount = 2,
     /// The last issue number is not 1 to 2^48.
-    BadLastNumber,
+    BadLastNumber = 3,
     /// The line is closed.
-    Closed,
+    Closed = 4,
     /// The member or sender is not below the member count.
-    NoMember,
+    NoMember = 5,
     /// The set is empty or names one that is no member.
-    BadSet,
+    BadSet = 6,
     /// All issue numbers are issued.
-    NumbersUsedUp,
+    NumbersUsedUp = 7,
     /// 32 commands are open.
-    TableFull,
+    TableFull = 8,
     /// No open command has this number.
-    NoCommand,
+    NoCommand = 9,
     /// The member is no destination of the command.
-    NoDestination,
+    NoDestination = 10,
     /// An earlier step is missing.
-    TooEarly,
+    TooEarly = 11,
     /// This destination has done the step.
-    AlreadyDone,
+    AlreadyDone = 12,
     /// No command is ready at the member.
-    NothingReady,
+    NothingReady = 13,
 }
 
-/// What a call answers.
+/// What a call answers that is not refused.
 #[derive(Clone, Copy, PartialEq, Eq, Debug)]
 pub enum Answer {
     /// The line is open.
@@ -95,8 +95,6 @@ pub enum Answer {
     Clock(u64),
     /// The final timestamp and the issue number of the command that ran.
     Ran((u64, u64)),
-    /// Why the call was refused.
-    Refused(Refusal),
 }
 
 impl Refusal {
@@ -104,20 +102,6 @@ impl Refusal {
     pub fn number(self) -> u8
         ensures { result ≡ refusal_number self }
     {
-        match self {
-            Refusal::AlreadyOpen => 1,
-            Refusal::BadMemberCount => 2,
-            Refusal::BadLastNumber => 3,
-            Refusal::Closed => 4,
-            Refusal::NoMember => 5,
-            Refusal::BadSet => 6,
-            Refusal::NumbersUsedUp => 7,
-            Refusal::TableFull => 8,
-            Refusal::NoCommand => 9,
-            Refusal::NoDestination => 10,
-            Refusal::TooEarly => 11,
-            Refusal::AlreadyDone => 12,
-            Refusal::NothingReady => 13,
-        }
+        self as u8
     }
 }
