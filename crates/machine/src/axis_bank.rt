@@ -1,5 +1,5 @@
 //! Kind 1: eight axes and their positions.
-ghost use Rattle.std.specs.Prelude.{◌≡◌};
+ghost use Rattle.std.specs.Prelude.{◌≡◌, refl};
 ghost use Rattle.machine.specs.AxisBanks.{axis_bank};
 ghost use Rattle.std.specs.List.{slice_get};
 ghost use Rattle.machine.specs.Banks.{bank_laws};
@@ -16,25 +16,18 @@ pub struct AxisBank {
     positions: [u32; AXES],
 }
 
-/// The position at `i`, or none past the last.
-fn position(positions: &[u32], i: usize) -> Option<u32>
-    ensures { result ≡ slice_get positions.now i }
-{
-    positions.get(i).copied()
-}
-
 impl Machine for AxisBank {
     const CELLS: usize = AXES;
+
+    ghost CELLS = { 8 };
 
     ghost kind = { axis_bank };
 
     ghost cells = { λ b. b.positions };
 
-    ghost lawful = { bank_laws };
+    ghost counted = { refl };
 
-    fn count() -> usize {
-        Self::CELLS
-    }
+    ghost lawful = { bank_laws };
 
     fn start() -> Self {
         AxisBank {
@@ -98,6 +91,6 @@ impl Machine for AxisBank {
     }
 
     fn read(&self, i: usize) -> Option<u32> {
-        position(&self.positions, i)
+        self.positions.get(i).copied()
     }
 }

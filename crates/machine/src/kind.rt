@@ -10,15 +10,14 @@ pub trait Machine: Sized {
     /// How many cells a machine of this kind has.
     const CELLS: usize;
 
+    /// The constant, for the laws.
+    ghost CELLS: { ℕ };
+
     /// The kind, as data: starting cells, conflict, next.
     ghost kind: { Kind };
 
     /// What a machine of this kind holds.
     ghost cells: { Self → List ℕ };
-
-    /// The constant `CELLS`, tied to the kind.
-    fn count() -> usize
-        ensures { result ≡ kind.count };
 
     /// A machine at the starting cells.
     fn start() -> Self
@@ -35,6 +34,8 @@ pub trait Machine: Sized {
     /// The cell at `i`, or none past the last.
     fn read(&self, i: usize) -> Option<u32>
         ensures { result ≡ slice_get (cells self.now) i };
+
+    ghost counted: { CELLS ≡ kind.count };
 
     ghost lawful: { Laws kind };
 }

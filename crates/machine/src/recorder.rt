@@ -1,5 +1,5 @@
 //! Kind 2: a record of what ran.
-ghost use Rattle.std.specs.Prelude.{◌≡◌, ◌∷◌, ◌++◌, map, take, Some};
+ghost use Rattle.std.specs.Prelude.{◌≡◌, ◌∷◌, ◌++◌, map, take, Some, refl};
 ghost use Rattle.machine.specs.Numbers.{numbers};
 ghost use Rattle.machine.specs.Recorders.{recorder, entries, places_from};
 ghost use Rattle.machine.specs.Words.{wrap};
@@ -20,6 +20,7 @@ pub struct Recorder {
 }
 
 /// Changes nothing. It is here for its promise: to bring the numbers of a command at hand below 2^32 changes none.
+/// Only a match on the command shows the checker that they are below it, so no lemma can stand in.
 fn fits_words(command: Command)
     ensures { map wrap (numbers command) ≡ numbers command }
 {
@@ -29,14 +30,6 @@ fn fits_words(command: Command)
         | Command::Couple { .. }
         | Command::Mark { .. } => {}
     }
-}
-
-/// Changes nothing. It is here for its promise: a command before the first seven of eight places has the cells that
-/// the kind asks for.
-fn moves_on(latest: [Option<Command>; KEPT], command: Command)
-    ensures { entries (Some command ∷ places_from latest 0 7) ≡ map wrap (numbers command) ++ take 21 (entries latest) }
-{
-    fits_words(command);
 }
 
 /// The cell at `i` of a record's places.
@@ -53,15 +46,15 @@ fn place_cell(places: &[Option<Command>], i: usize) -> Option<u32>
 impl Machine for Recorder {
     const CELLS: usize = 25;
 
+    ghost CELLS = { 25 };
+
     ghost kind = { recorder };
 
     ghost cells = { λ r. r.count ∷ entries r.latest };
 
-    ghost lawful = { recorder_laws };
+    ghost counted = { refl };
 
-    fn count() -> usize {
-        Self::CELLS
-    }
+    ghost lawful = { recorder_laws };
 
     fn start() -> Self {
         Recorder {
@@ -75,7 +68,7 @@ impl Machine for Recorder {
     }
 
     fn run(&mut self, command: Command) {
-        moves_on(self.latest, command);
+        fits_words(command);
         self.count = self.count.wrapping_add(1);
         let [a, b, c, d, e, f, g, _] = self.latest;
         self.latest = [Some(command), a, b, c, d, e, f, g];

@@ -1,5 +1,5 @@
 //! Kind 3: counts by class of command.
-ghost use Rattle.std.specs.Prelude.{[], ◌∷◌};
+ghost use Rattle.std.specs.Prelude.{[], ◌∷◌, refl};
 ghost use Rattle.machine.specs.Tallies.{tally};
 ghost use Rattle.machine.specs.TalliesLemmas.{tally_laws};
 
@@ -18,15 +18,15 @@ pub struct Tally {
 impl Machine for Tally {
     const CELLS: usize = 4;
 
+    ghost CELLS = { 4 };
+
     ghost kind = { tally };
 
     ghost cells = { λ t. t.sets ∷ t.shifts ∷ t.couples ∷ t.marks ∷ [] };
 
-    ghost lawful = { tally_laws };
+    ghost counted = { refl };
 
-    fn count() -> usize {
-        Self::CELLS
-    }
+    ghost lawful = { tally_laws };
 
     fn start() -> Self {
         Tally {
