@@ -5,7 +5,7 @@ use Rattle.line.specs.declared.parts.Remembered.{Remembered}
 use Rattle.machine.specs.declared.command.Command.{Command}
 use Rattle.machine.specs.declared.command.Command.TheVariants.{Set}
 use Rattle.machine.specs.Kinds.{Kind}
-use Rattle.open_commands.specs.Lists.{any_of}
+use Rattle.std.specs.List.{list_any}
 
 abbrev pub blank_remembered : Remembered
 blank_remembered = record { number = 0; command = Set 0 0 }
@@ -19,10 +19,10 @@ abbrev pub memory : Seat → List Remembered
 memory p = take p.kept p.remembered
 
 abbrev pub any_clash : Kind → Command → List Remembered → Bool
-any_clash K c = any_of (λ r. K.conflict r.command c)
+any_clash K c = list_any (λ r. K.conflict r.command c)
 
 abbrev pub any_number : ℕ → List Remembered → Bool
-any_number k = any_of (λ r. nat_eq r.number k)
+any_number k = list_any (λ r. nat_eq r.number k)
 
 abbrev pub risen_seat : Seat → Seat
 risen_seat p = record { clock = p.clock + 1; kept = 0; remembered = p.remembered }

@@ -1,21 +1,14 @@
 -- Lists with keys: what a look-up answers, and what it answers after a change at one place.
-use Rattle.std.proofs.Common.{◌≡◌, ℕ, zero, suc, ◌+◌, ◌<◌, ◌≤◌, Bool, true, false, cond, not, ◌&&◌, eqb, List, [], ◌∷◌, ◌++◌, length, take, set, Some, None, Option, sym, refl, ap, ◌∙◌, subst, ⊎_elim, arith}
+use Rattle.std.proofs.Common.{◌≡◌, ℕ, zero, suc, ◌+◌, ◌<◌, ◌≤◌, Bool, true, false, cond, not, ◌&&◌, eqb, List, [], ◌∷◌, ◌++◌, length, take, set, get_or, Some, None, Option, sym, refl, ap, ◌∙◌, subst, ⊎_elim, ◌⊎◌, ◌≢◌, arith}
 use lib.Seq.{take-set-le, take-set-lt}
 use Rattle.std.proofs.lemmas.Bool.{cases_eq, eq-eqb, ne_eqb, eqb-true, cond-true, cond-false, and_parts, and_from}
-use Rattle.std.specs.List.{slice_get}
+use Rattle.std.proofs.lemmas.Option.{get_or_from_slice_get, slice_get_cases}
+use Rattle.std.specs.List.{slice_get, AllWithin, HoldsAt}
+use Rattle.std.specs.Option.{IfSome, MatchOption}
 use Rattle.open_commands.specs.Lists.{lookup_by, apart, MissTo}
 use Rattle.ordering.proofs.Basics.{some_inj, none_some, false_true, put_other}
 use Rattle.ordering.proofs.Bounded.{sum_change}
 use Rattle.ordering.specs.Searches.{put, present, count_below, sum_below}
-
-pub miss_more : {X : Type 0} (key : X → ℕ) (xs : List X) (k i : ℕ) (y : X) → slice_get xs i ≡ Some y → (key y ≡ k → ⊥) → MissTo key xs k i → MissTo key xs k (i + 1)
-miss_more key xs k i y at ne h j x l e = ⊎_elim (λ q. here q) (λ q. h j x (below q) e) (cases_eq j i)
-  where
-    below : (j ≡ i → ⊥) → j < i
-    below q = omega (arith, q, l)
-
-    here : j ≡ i → key x ≡ k → ⊥
-    here q w = ne (ap key (some_inj (sym at ∙ (ap (slice_get xs) (sym q) ∙ e))) ∙ w)
 
 pub lookup_none : {X : Type 0} (key : X → ℕ) (xs : List X) (k n : ℕ) → length xs ≤ n → MissTo key xs k n → lookup_by key xs k ≡ None
 lookup_none key [] k n l h = refl
@@ -28,6 +21,29 @@ lookup_first key (y ∷ ys) k zero x at e h =
     cond-true (eqb (key y) k) (Some y) (lookup_by key ys k) (eq-eqb (key y) k (ap key (some_inj at) ∙ e))
 lookup_first key (y ∷ ys) k (suc i) x at e h =
     cond-false (eqb (key y) k) (Some y) (lookup_by key ys k) (ne_eqb (key y) k (h 0 y (omega arith) refl)) ∙ lookup_first key ys k i x at e (λ j z l. h (suc j) z (omega arith))
+
+-- The place that a search from the front answers.
+module _ {X : Type 0} (key : X → ℕ) (xs : List X) (k : ℕ) where
+  abbrev pub IsFirstWith : Option ℕ → Type 0
+  IsFirstWith r = MatchOption r (AllWithin (λ x. key x ≢ k) xs 0 (length xs)) (λ i. (i < length xs) × HoldsAt (λ x. key x ≡ k) xs i × AllWithin (λ x. key x ≢ k) xs 0 i)
+
+  miss_all : (i : ℕ) → AllWithin (λ x. key x ≢ k) xs 0 i → MissTo key xs k i
+  miss_all i h j x l e = subst (λ y. key y ≢ k) (get_or_from_slice_get xs j x x e) (h j x (omega arith) l)
+
+  pub first_missed : (r : Option ℕ) → IsFirstWith r → IfSome r (λ i. MissTo key xs k i)
+  first_missed None h = tt
+  first_missed (Some i) h = miss_all i h.2
+
+  pub first_found : (r : Option ℕ) → IsFirstWith r → MatchOption r (lookup_by key xs k ≡ None) (λ i. (i < length xs) × (lookup_by key xs k ≡ slice_get xs i))
+  first_found None h = lookup_none key xs k (length xs) (omega arith) (miss_all (length xs) h)
+  first_found (Some i) h = go (slice_get_cases xs i).1
+    where
+      go : ((x : X) × (i < length xs) × (slice_get xs i ≡ Some x) × (get_or xs i x ≡ x)) ⊎ ((length xs ≤ i) × (slice_get xs i ≡ None)) → (i < length xs) × (lookup_by key xs k ≡ slice_get xs i)
+      go u =
+          ⊎_elim
+          (λ w. (h.0, lookup_first key xs k i w.0 w.2 (subst (λ y. key y ≡ k) w.3 (h.1 w.0)) (miss_all i h.2)))
+          (λ w. absurd (omega (arith, h.0, w.0)))
+          u
 
 absent : {X : Type 0} (o : Option X) → not (present o) ≡ true → o ≡ None
 absent None h = refl

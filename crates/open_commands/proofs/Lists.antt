@@ -1,53 +1,43 @@
 -- A test over a list, by its places.
-use Rattle.std.proofs.Common.{◌≡◌, ℕ, zero, suc, ◌+◌, ◌<◌, ◌≤◌, Bool, true, false, List, [], ◌∷◌, length, get_or, Some, sym, refl, ap, ◌∙◌, subst, ⊎_elim, arith}
-use Rattle.std.proofs.lemmas.Bool.{or_left, or_right, or_from, or_cases, and_from, and_left, and_right, and_parts, cases_eq}
-use Rattle.std.specs.List.{slice_get}
-use Rattle.open_commands.specs.Lists.{any_of, all_of}
+use Rattle.std.proofs.Common.{◌≡◌, ℕ, zero, suc, ◌<◌, ◌≤◌, Bool, true, false, List, [], ◌∷◌, length, get_or, Some, sym, refl, ap, ◌∙◌, ⊎_elim, arith}
+use Rattle.std.proofs.lemmas.Bool.{or_left, or_right, or_from, or_cases, and_from, and_left, and_right, and_parts}
+use Rattle.std.specs.List.{slice_get, list_any, list_all}
 use Rattle.ordering.proofs.Basics.{some_inj, none_some, false_true}
 
-pub any_hit : {X : Type 0} (f : X → Bool) (xs : List X) (i : ℕ) (d : X) → i < length xs → f (get_or xs i d) ≡ true → any_of f xs ≡ true
+pub any_hit : {X : Type 0} (f : X → Bool) (xs : List X) (i : ℕ) (d : X) → i < length xs → f (get_or xs i d) ≡ true → list_any f xs ≡ true
 any_hit f [] i d l h = absurd (omega arith)
-any_hit f (x ∷ xs) zero d l h = or_left (f x) (any_of f xs) h
-any_hit f (x ∷ xs) (suc i) d l h = or_right (f x) (any_of f xs) (any_hit f xs i d (omega arith) h)
+any_hit f (x ∷ xs) zero d l h = or_left (f x) (list_any f xs) h
+any_hit f (x ∷ xs) (suc i) d l h = or_right (f x) (list_any f xs) (any_hit f xs i d (omega arith) h)
 
-pub any_miss : {X : Type 0} (f : X → Bool) (xs : List X) (d : X) → ((k : ℕ) → k < length xs → f (get_or xs k d) ≡ false) → any_of f xs ≡ false
+pub any_miss : {X : Type 0} (f : X → Bool) (xs : List X) (d : X) → ((k : ℕ) → k < length xs → f (get_or xs k d) ≡ false) → list_any f xs ≡ false
 any_miss f [] d h = refl
 any_miss f (x ∷ xs) d h =
-    or_from (f x) (any_of f xs) (h zero (omega arith)) (any_miss f xs d (λ k l. h (suc k) (omega arith)))
+    or_from (f x) (list_any f xs) (h zero (omega arith)) (any_miss f xs d (λ k l. h (suc k) (omega arith)))
 
 -- Every element before place i passes.
 abbrev pub AllTo : {X : Type 0} → (X → Bool) → List X → ℕ → Type 0
 AllTo {X} f xs i = (j : ℕ) (x : X) → j < i → slice_get xs j ≡ Some x → f x ≡ true
 
-pub all_to_more : {X : Type 0} (f : X → Bool) (xs : List X) (i : ℕ) (y : X) → slice_get xs i ≡ Some y → f y ≡ true → AllTo f xs i → AllTo f xs (i + 1)
-all_to_more f xs i y at e h j x l q = ⊎_elim here (λ n. h j x (below n) q) (cases_eq j i)
-  where
-    below : (j ≡ i → ⊥) → j < i
-    below n = omega (arith, n, l)
-
-    here : j ≡ i → f x ≡ true
-    here n = subst (λ z. f z ≡ true) (some_inj (sym at ∙ (ap (slice_get xs) (sym n) ∙ q))) e
-
-pub all_of_lem : {X : Type 0} (f : X → Bool) (xs : List X) (n : ℕ) → length xs ≤ n → AllTo f xs n → all_of f xs ≡ true
+pub all_of_lem : {X : Type 0} (f : X → Bool) (xs : List X) (n : ℕ) → length xs ≤ n → AllTo f xs n → list_all f xs ≡ true
 all_of_lem f [] n l h = refl
 all_of_lem f (x ∷ xs) n l h =
-    and_from (f x) (all_of f xs) (h 0 x (omega arith) refl) (all_of_lem f xs (length xs) (omega arith) (λ j y m. h (suc j) y (omega arith)))
+    and_from (f x) (list_all f xs) (h 0 x (omega arith) refl) (all_of_lem f xs (length xs) (omega arith) (λ j y m. h (suc j) y (omega arith)))
 
-pub all_not_of : {X : Type 0} (f : X → Bool) (xs : List X) (i : ℕ) (x : X) → slice_get xs i ≡ Some x → f x ≡ false → all_of f xs ≡ false
+pub all_not_of : {X : Type 0} (f : X → Bool) (xs : List X) (i : ℕ) (x : X) → slice_get xs i ≡ Some x → f x ≡ false → list_all f xs ≡ false
 all_not_of f [] i x at e = absurd (none_some at)
-all_not_of f (y ∷ ys) zero x at e = and_left (f y) (all_of f ys) (ap f (some_inj at) ∙ e)
-all_not_of f (y ∷ ys) (suc i) x at e = and_right (f y) (all_of f ys) (all_not_of f ys i x at e)
+all_not_of f (y ∷ ys) zero x at e = and_left (f y) (list_all f ys) (ap f (some_inj at) ∙ e)
+all_not_of f (y ∷ ys) (suc i) x at e = and_right (f y) (list_all f ys) (all_not_of f ys i x at e)
 
-pub each_of : {X : Type 0} (f : X → Bool) (xs : List X) → all_of f xs ≡ true → (i : ℕ) (x : X) → slice_get xs i ≡ Some x → f x ≡ true
+pub each_of : {X : Type 0} (f : X → Bool) (xs : List X) → list_all f xs ≡ true → (i : ℕ) (x : X) → slice_get xs i ≡ Some x → f x ≡ true
 each_of f [] h i x at = absurd (none_some at)
-each_of f (y ∷ ys) h zero x at = sym (ap f (some_inj at)) ∙ (and_parts (f y) (all_of f ys) h).0
-each_of f (y ∷ ys) h (suc i) x at = each_of f ys (and_parts (f y) (all_of f ys) h).1 i x at
+each_of f (y ∷ ys) h zero x at = sym (ap f (some_inj at)) ∙ (and_parts (f y) (list_all f ys) h).0
+each_of f (y ∷ ys) h (suc i) x at = each_of f ys (and_parts (f y) (list_all f ys) h).1 i x at
 
-pub some_of : {X : Type 0} (f : X → Bool) (xs : List X) → any_of f xs ≡ true → (i : ℕ) × (x : X) × (slice_get xs i ≡ Some x) × (f x ≡ true)
+pub some_of : {X : Type 0} (f : X → Bool) (xs : List X) → list_any f xs ≡ true → (i : ℕ) × (x : X) × (slice_get xs i ≡ Some x) × (f x ≡ true)
 some_of f [] h = absurd (false_true h)
-some_of f (y ∷ ys) h = ⊎_elim (λ e. (0, y, refl, e)) (λ e. let r = some_of f ys e in (suc r.0, r.1, r.2, r.3)) (or_cases (f y) (any_of f ys) h)
+some_of f (y ∷ ys) h = ⊎_elim (λ e. (0, y, refl, e)) (λ e. let r = some_of f ys e in (suc r.0, r.1, r.2, r.3)) (or_cases (f y) (list_any f ys) h)
 
-pub any_at : {X : Type 0} (f : X → Bool) (xs : List X) (i : ℕ) (x : X) → slice_get xs i ≡ Some x → f x ≡ true → any_of f xs ≡ true
+pub any_at : {X : Type 0} (f : X → Bool) (xs : List X) (i : ℕ) (x : X) → slice_get xs i ≡ Some x → f x ≡ true → list_any f xs ≡ true
 any_at f [] i x at h = absurd (none_some at)
-any_at f (y ∷ ys) zero x at h = or_left (f y) (any_of f ys) (ap f (some_inj at) ∙ h)
-any_at f (y ∷ ys) (suc i) x at h = or_right (f y) (any_of f ys) (any_at f ys i x at h)
+any_at f (y ∷ ys) zero x at h = or_left (f y) (list_any f ys) (ap f (some_inj at) ∙ h)
+any_at f (y ∷ ys) (suc i) x at h = or_right (f y) (list_any f ys) (any_at f ys i x at h)

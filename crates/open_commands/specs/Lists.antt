@@ -1,16 +1,7 @@
--- Searches through a list, by a test and by a key.
-use Rattle.std.specs.Prelude.{◌≡◌, ℕ, ◌<◌, Bool, true, false, cond, not, ◌&&◌, ◌||◌, List, [], ◌∷◌, Some, None, Option, ◌==◌, ◌≢◌}
+-- Searches through a list by a key.
+use Rattle.std.specs.Prelude.{◌≡◌, ℕ, ◌<◌, Bool, true, cond, not, ◌&&◌, List, [], ◌∷◌, Some, None, Option, ◌==◌, ◌≢◌}
 use Rattle.std.specs.List.{slice_get}
 use Rattle.ordering.specs.Searches.{present}
-
--- Some element passes; every element passes.
-abbrev pub any_of : {X : Type 0} → (X → Bool) → List X → Bool
-any_of f [] = false
-any_of f (x ∷ xs) = f x || any_of f xs
-
-abbrev pub all_of : {X : Type 0} → (X → Bool) → List X → Bool
-all_of f [] = true
-all_of f (x ∷ xs) = f x && all_of f xs
 
 -- The element with the key k, where one has it.
 abbrev pub lookup_by : {X : Type 0} → (X → ℕ) → List X → ℕ → Option X

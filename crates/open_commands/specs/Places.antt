@@ -1,10 +1,10 @@
 -- What the searches over open commands answer, by places.
 use Rattle.std.specs.Prelude.{◌≡◌, ℕ, ◌<◌, ◌≤◌, Bool, true, false, cond, ◌&&◌, List, length, Some, None, Ok, Err, Option, Result, nat_lt}
-use Rattle.std.specs.List.{slice_get}
+use Rattle.std.specs.List.{slice_get, list_all}
 use Rattle.open_commands.specs.declared.parts.Address.{Address}
 use Rattle.open_commands.specs.declared.parts.OpenCommand.{OpenCommand as Place}
 use Rattle.open_commands.specs.declared.table.Candidate.{Candidate}
-use Rattle.open_commands.specs.Lists.{lookup_by, all_of}
+use Rattle.open_commands.specs.Lists.{lookup_by}
 use Rattle.open_commands.specs.Views.{number_of, view_open}
 use Rattle.machine.specs.declared.command.Command.{Command}
 use Rattle.machine.specs.Kinds.{Kind}
@@ -20,7 +20,7 @@ FoundAt ps k (Some i) = (i < length ps) × (lookup_by number_of ps k ≡ slice_g
 
 -- Every place passes the pair and the command at member m.
 abbrev pub all_pass : Kind → ℕ → Pair → Command → List Place → Bool
-all_pass K m p c = all_of (λ o. passes K m p c o.number (Some (view_open o)))
+all_pass K m p c = list_all (λ o. passes K m p c o.number (Some (view_open o)))
 
 -- The final timestamp of the command at a place, if it is ready at member m.
 abbrev pub ready_in : Kind → ℕ → List Place → Place → Option ℕ → Option ℕ

@@ -1,9 +1,9 @@
 //! Where a command goes.
-ghost use Rattle.std.specs.Prelude.{◌≡◌, ◌^◌, ◌<◌, not, nat_lt};
+ghost use Rattle.std.specs.Prelude.{◌≡◌, ◌^◌, ◌<◌, ◌&&◌, not, nat_lt};
 ghost use Rattle.open_commands.specs.Places.{AddressMade};
 ghost use Rattle.ordering.specs.Searches.{names};
 
-use crate::parts::Address;
+use crate::parts::{Address, MEMBERS};
 use ordering::calls::Refusal;
 
 /// Whether the set names one that is no member.
@@ -40,9 +40,9 @@ impl Address {
 
     /// Whether the member is a destination.
     pub(crate) fn names(self, member: usize) -> bool
-        requires { member < 16 }
-        ensures { result ≡ names self.set member }
+        ensures bit { result ≡ names self.set member }
+        ensures within { result ≡ (nat_lt member 16 && names self.set member) }
     {
-        (self.set >> member) & 1 == 1
+        member < MEMBERS && (self.set >> member) & 1 == 1
     }
 }

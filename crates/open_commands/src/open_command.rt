@@ -37,17 +37,16 @@ impl OpenCommand {
     pub fn is_for(&self, member: usize) -> bool
         ensures { result ≡ (nat_lt member 16 && names self.now.address.set member) }
     {
-        member < MEMBERS && self.address.names(member)
+        self.address.names(member)
     }
 
     /// How the command stands at the member.
     pub fn phase(&self, member: usize) -> Phase
         ensures { result ≡ phase_in self.now.destinations member }
     {
-        match self.destinations.get(member) {
-            Some(destination) => destination.phase,
-            None => Phase::Sent,
-        }
+        self.destinations
+            .get(member)
+            .map_or(Phase::Sent, |destination| destination.phase)
     }
 
     /// Moves the member's destination to another phase.
@@ -59,7 +58,6 @@ impl OpenCommand {
 
     /// The member's proposal once it is gathered, and 0 where it is no destination.
     fn gathered(&self, member: usize) -> Option<u64>
-        requires { member < 16 }
         ensures { result ≡ gathered_at (view_open self.now) member }
     {
         if !self.address.names(member) {
@@ -75,12 +73,9 @@ impl OpenCommand {
     fn final_timestamp(&self) -> Option<u64>
         ensures { result ≡ final_of (view_open self.now) }
     {
-        let mut greatest: u64 = 0;
+        let mut greatest = 0;
         for q in 0..MEMBERS {
-            let Some(proposal) = self.gathered(q) else {
-                return None;
-            };
-            greatest = greatest.max(proposal);
+            greatest = greatest.max(self.gathered(q)?);
         }
         Some(greatest)
     }
@@ -97,7 +92,6 @@ impl OpenCommand {
 
     /// Whether the member has run the command or is no destination.
     fn is_done(&self, member: usize) -> bool
-        requires { member < 16 }
         ensures { result ≡ done_at (view_open self.now) member }
     {
         !self.address.names(member) || matches!(self.phase(member), Phase::Run)
@@ -117,7 +111,6 @@ impl OpenCommand {
 
     /// Where the command stands at the member, if the member has heard and not run it.
     fn standing(&self, member: usize) -> Option<u64>
-        requires { member < 16 }
         ensures { result ≡ standing (view_open self.now) member }
     {
         if !self.address.names(member) {
@@ -132,7 +125,6 @@ impl OpenCommand {
 
     /// The final timestamp, if it has reached the member and the member has not run the command.
     pub(crate) fn settled(&self, member: usize) -> Option<u64>
-        requires { member < 16 }
         ensures { result ≡ settled_as member (Some (view_open self.now)) }
     {
         if !self.address.names(member) {
@@ -152,7 +144,6 @@ impl OpenCommand {
         pair: (u64, u64),
         command: Command,
     ) -> bool
-        requires { member < 16 }
         ensures { result ≡ passes M.kind member pair command self.now.number (Some (view_open self.now)) }
     {
         if self.number == pair.1 {

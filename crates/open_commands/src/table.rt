@@ -1,8 +1,9 @@
 //! Searches over the open commands of a line.
-ghost use Rattle.std.specs.Prelude.{◌≡◌, ◌+◌, ◌<◌, IfSome, length};
+ghost use Rattle.std.specs.Prelude.{◌≡◌, ◌+◌, ◌<◌, IfSome, Some, length};
 ghost use Rattle.open_commands.specs.Lists.{MissTo};
 ghost use Rattle.open_commands.specs.Places.{FoundAt, all_pass, improves_on, BestTo, EarliestAt};
 ghost use Rattle.open_commands.specs.Views.{number_of};
+ghost use Rattle.std.specs.List.{slice_get};
 
 use crate::open_command::earlier;
 use crate::parts::{MEMBERS, OpenCommand};
@@ -14,12 +15,7 @@ pub fn place_of(commands: &[OpenCommand], number: u64) -> Option<usize>
     ensures found { FoundAt commands.now number result }
     ensures first { IfSome result (λ place. MissTo number_of commands.now number place) }
 {
-    for (place, command) in commands.iter().enumerate() {
-        if command.number == number {
-            return Some(place);
-        }
-    }
-    None
+    commands.iter().position(|command| command.number == number)
 }
 
 /// Whether every open command lets one with the pair pass at the member.
@@ -29,15 +25,11 @@ fn all_pass<M: Machine>(
     pair: (u64, u64),
     command: Command,
 ) -> bool
-    requires { member < 16 }
     ensures { result ≡ all_pass M.kind member pair command commands.now }
 {
-    for other in commands {
-        if !other.lets_pass::<M>(member, pair, command) {
-            return false;
-        }
-    }
-    true
+    commands
+        .iter()
+        .all(|other| other.lets_pass::<M>(member, pair, command))
 }
 
 /// The earliest ready command so far: its place, and its final timestamp and issue number.
@@ -51,10 +43,7 @@ pub struct Candidate {
 fn improves(best: Option<Candidate>, pair: (u64, u64)) -> bool
     ensures { result ≡ improves_on best pair }
 {
-    match best {
-        Some(candidate) => earlier(pair, candidate.pair),
-        None => true,
-    }
+    best.is_none_or(|candidate| earlier(pair, candidate.pair))
 }
 
 /// The best candidate with the command at the place taken into account.
@@ -62,13 +51,12 @@ fn better<M: Machine>(
     commands: &[OpenCommand],
     member: usize,
     place: usize,
+    command: &OpenCommand,
     best: Option<Candidate>,
 ) -> Option<Candidate>
-    requires member_bound { member < 16 }
-    requires place_in_bounds { place < length commands.now }
+    requires { slice_get commands.now place ≡ Some command.now }
     ensures { BestTo M.kind member commands.now place best → BestTo M.kind member commands.now (place + 1) result }
 {
-    let command = &commands[place];
     let Some(timestamp) = command.settled(member) else {
         return best;
     };
@@ -84,12 +72,11 @@ fn better<M: Machine>(
 
 /// The earliest ready command at a member that a line can have.
 fn earliest_at<M: Machine>(commands: &[OpenCommand], member: usize) -> Option<Candidate>
-    requires { member < 16 }
     ensures { BestTo M.kind member commands.now (length commands.now) result }
 {
     let mut best = None;
-    for place in 0..commands.len() {
-        best = better::<M>(commands, member, place, best);
+    for (place, command) in commands.iter().enumerate() {
+        best = better::<M>(commands, member, place, command, best);
     }
     best
 }
