@@ -1,18 +1,8 @@
 -- Small facts of the bytes that a slice pattern tells, in the words of specs/Cut.
-use Rattle.std.proofs.Common.{◌≡◌, ℕ, suc, ◌+◌, ◌-◌, ◌<◌, ◌≤◌, min, Bool, true, false, cond, ◌&&◌, eqb, ltb, List, [], ◌∷◌, length, get_or, take, drop, sym, refl, ap, ◌∙◌, subst, ⊎_elim, arith}
-use Rattle.std.proofs.lemmas.List.{take_rest, length-drop, drop_all}
-use Rattle.std.proofs.lemmas.Bool.{cases_lt, ne_eqb, lt-ltb}
+use Rattle.std.proofs.Common.{◌≡◌, ℕ, suc, ◌+◌, ◌-◌, ◌<◌, ◌≤◌, Bool, true, false, cond, ◌&&◌, eqb, ltb, List, [], ◌∷◌, length, get_or, sym, refl, ap, ◌∙◌, subst, arith}
+use Rattle.std.proofs.lemmas.List.{take_rest, length-drop}
+use Rattle.std.proofs.lemmas.Bool.{ne_eqb, lt-ltb}
 use Rattle.record.specs.Cut.{onwards, text_step, inside}
-
-pub bytes_from_is : (bs : List ℕ) (start n : ℕ) → n ≡ min start (length bs) → take (length bs - n) (drop n bs) ≡ drop start bs
-bytes_from_is bs start n e =
-    take_rest bs n ∙ ⊎_elim (λ h. ap (λ k. drop k bs) (cut h)) (λ h. drop_all n bs (past h) ∙ sym (drop_all start bs h)) (cases_lt start (length bs))
-  where
-    cut : start < length bs → n ≡ start
-    cut h = omega arith
-
-    past : length bs ≤ start → length bs ≤ n
-    past h = omega arith
 
 pub onwards_length : (k : ℕ) (bs : List ℕ) → length (onwards k bs) ≡ length bs - k
 onwards_length k bs = ap length (take_rest bs k) ∙ length-drop k bs
@@ -72,6 +62,3 @@ inside_more all whole rest more e l h p =
     let m : inside more ≡ inside (onwards (text_step rest) rest) = ap inside h in
     let n : length more ≡ length rest - text_step rest = ap length h ∙ onwards_length (text_step rest) rest in
     (omega (arith, s.0, s.1), omega arith)
-
-pub inside_less : (rest more : List ℕ) → more ≡ onwards (text_step rest) rest → 0 < text_step rest → length more < length rest
-inside_less rest more h p = omega (arith, (inside_step rest p).1, ap length h ∙ onwards_length (text_step rest) rest)

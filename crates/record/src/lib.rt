@@ -10,7 +10,7 @@ pub use records::cut_record;
 /// A field: the bytes between its commas without outer quotes, and its offset in the script.
 /// The offset is that of the opening quote where there is one, else that of the first byte; of an empty field it is where it stands.
 /// A doubled quote stays two bytes.
-#[derive(Clone, Copy)]
+#[derive(Clone, Copy, PartialEq, Eq, Debug)]
 pub struct Field<'a> {
     pub text: &'a [u8],
     pub at: usize,
@@ -24,6 +24,7 @@ pub enum RecordEnd {
 }
 
 /// What ended a field: a comma, or the end of its record, of which it is then the last.
+// An `Option<RecordEnd>` would leave it to the reader that `None` is a comma.
 #[derive(Clone, Copy, PartialEq, Eq, Debug)]
 pub enum FieldEnd {
     Comma,
@@ -37,7 +38,7 @@ pub struct TextFault {
 }
 
 /// One field that was cut off, what ended it, the bytes behind that end, and their offset.
-#[derive(Clone, Copy)]
+#[derive(Clone, Copy, PartialEq, Eq, Debug)]
 pub struct FieldCut<'a> {
     pub field: Field<'a>,
     pub end: FieldEnd,

@@ -5,7 +5,7 @@ ghost use Rattle.record.specs.Bytes.{piece_of};
 ghost use Rattle.record.specs.Cut.{Within, answer, cut_record, placed};
 ghost use Rattle.record.specs.Rfc4180.{RecordAnswer};
 
-use crate::fields::{bytes_from, first_field};
+use crate::fields::Rest;
 use crate::{Cut, Field, FieldEnd, TextFault};
 
 /// Puts a field at its place, where there is one.
@@ -17,29 +17,27 @@ fn store<'a>(fields: &mut [Field<'a>], place: usize, field: Field<'a>)
     }
 }
 
-/// The record that the bytes left begin with.
-fn first_record<'a>(
-    left: &'a [u8],
-    start: usize,
-    fields: &mut [Field<'a>],
-) -> Result<Cut, TextFault>
-    requires { start + length left.now < 2 ^ 64 }
-    ensures answers { result ≡ answer (cut_record left.now start) }
-    ensures holds { map piece_of fields.new ≡ placed (cut_record left.now start).pieces (map piece_of fields.old) }
-    ensures rfc { RecordAnswer start left.now (map piece_of fields.old) (map piece_of fields.new) result }
-    ensures within { Within start left.now result }
+/// The record that stands first.
+fn first_record<'a>(script: Rest<'a>, fields: &mut [Field<'a>]) -> Result<Cut, TextFault>
+    ensures answers { result ≡ answer (cut_record script.entry.bytes.now script.entry.at) }
+    ensures holds { map piece_of fields.new ≡ placed (cut_record script.entry.bytes.now script.entry.at).pieces (map piece_of fields.old) }
+    ensures rfc { RecordAnswer script.entry.at script.entry.bytes.now (map piece_of fields.old) (map piece_of fields.new) result }
+    ensures within { Within script.entry.at script.entry.bytes.now result }
 {
-    let mut rest = left;
-    let mut at = start;
+    let mut left = script;
+
+    // Counts past the places too, so it is no index over them.
     let mut count = 0;
     loop {
-        let cut = first_field(rest, at)?;
+        let cut = left.first_field()?;
         store(fields, count, cut.field);
         count += 1;
         match cut.end {
             FieldEnd::Comma => {
-                rest = cut.rest;
-                at = cut.next;
+                left = Rest {
+                    bytes: cut.rest,
+                    at: cut.next,
+                };
             }
             FieldEnd::Last(end) => return Ok(Cut {
                 fields: count,
@@ -61,5 +59,5 @@ pub fn cut_record<'a>(
     ensures rfc { RecordAnswer start (drop start script.now) (map piece_of fields.old) (map piece_of fields.new) result }
     ensures within { Within start (drop start script.now) result }
 {
-    first_record(bytes_from(script, start), start, fields)
+    first_record(Rest::of(script, start), fields)
 }

@@ -3,8 +3,7 @@
 
 #[cfg(test)]
 mod tests {
-    use record::{Cut, Field, FieldEnd, RecordEnd, TextFault, cut_field, cut_record};
-    use std::test::Fail;
+    use record::{Cut, Field, FieldCut, FieldEnd, RecordEnd, TextFault, cut_field, cut_record};
 
     // Seven places with nothing in them.
     fn places<'a>() -> [Field<'a>; 7] {
@@ -13,16 +12,14 @@ mod tests {
 
     // Whether a field has this text and offset.
     fn is(field: &Field, text: &[u8], at: usize) -> bool {
-        field.text == text && field.at == at
+        *field == Field { text, at }
     }
 
     // Where the first record of a script has its text fault.
     fn fault(script: &[u8]) -> Option<usize> {
-        let mut fields = places();
-        match cut_record(script, 0, &mut fields) {
-            Ok(_) => None,
-            Err(TextFault { at }) => Some(at),
-        }
+        cut_record(script, 0, &mut places())
+            .err()
+            .map(|fault| fault.at)
     }
 
     #[test]
@@ -195,16 +192,15 @@ mod tests {
     }
 
     #[test]
-    fn one_field(rt: HostRuntime) -> Result<(), Fail> {
-        match cut_field(b"x,\"y\"\r\nz", 2) {
-            Ok(cut) => {
-                assert!(rt;
-                    is(&cut.field, b"y", 2) && cut.rest == b"z".as_slice() && cut.next == 7
-                );
-                assert_eq!(rt; cut.end, FieldEnd::Last(RecordEnd::CrLf));
-                Ok(())
-            }
-            Err(_) => Err(Fail::new("a fault")),
-        }
+    fn one_field(rt: HostRuntime) {
+        assert_eq!(rt;
+            cut_field(b"x,\"y\"\r\nz", 2),
+            Ok(FieldCut {
+                field: Field { text: b"y", at: 2 },
+                end: FieldEnd::Last(RecordEnd::CrLf),
+                rest: b"z",
+                next: 7,
+            })
+        );
     }
 }
