@@ -28,7 +28,13 @@ fn plain_length(bytes: &[u8]) -> usize
     ensures is { result ≡ prefix_len textdata bytes.now }
     ensures within { result ≤ length bytes.now }
 {
-    bytes.iter().take_while(|b| is_text(**b)).count()
+    // The chain of `take_while` and `count` takes two instructions a byte more.
+    for (i, b) in bytes.iter().enumerate() {
+        if !is_text(*b) {
+            return i;
+        }
+    }
+    bytes.len()
 }
 
 /// The bytes behind the next piece of text between quotes: behind one byte, or behind a doubled quote.
