@@ -1,37 +1,15 @@
 -- From the fields that were cut to the step that they ask for.
-use Rattle.std.proofs.Common.{◌≡◌, ℕ, ◌<◌, cond, eqb, List, [], ◌∷◌, map, length, get_or, Ok, Err, Result, sym, refl, ap, ◌∙◌, arith}
-use Rattle.std.proofs.lemmas.List.{get_or-map}
-use Rattle.std.proofs.lemmas.Bool.{eq-eqb, ne_eqb}
-use Rattle.record.specs.Bytes.{Piece, piece_of}
+use Rattle.std.proofs.Common.{◌≡◌, ℕ, cond, eqb, List, [], ◌∷◌, length, Ok, Err, Result, sym, refl, ap, ◌∙◌, arith}
+use Rattle.std.proofs.lemmas.Bool.{eq-eqb}
+use Rattle.record.specs.Bytes.{Piece}
 use Rattle.record.specs.Cut.{Cutting, Ended, answer, answered, placed}
 use Rattle.record.specs.declared.Cut.{Cut}
-use Rattle.record.specs.declared.Field.{Field}
 use Rattle.record.specs.declared.TextFault.{TextFault}
 use Rattle.script.specs.declared.faults.Cause.TheVariants.{FieldCount}
-use Rattle.script.specs.declared.steps.Letter.{Letter}
 use Rattle.script.specs.declared.steps.Step.{Step}
 use Rattle.script.specs.declared.steps.StepFault.{StepFault}
-use Rattle.script.specs.Fields.{Read, fault}
-use Rattle.script.specs.Steps.{Pieces, pieces_of, and_then, letter_of, step_by, no_piece, behind_letter, step_of, step_within}
-
--- Seven fields, and what stands behind them.
-module _ (xs : List Field) (d : Field) (seven : length xs ≡ 7) where
-  field : (i : ℕ) → i < 7 → get_or (map piece_of xs) i no_piece ≡ piece_of (get_or xs i d)
-  field i lt = get_or-map piece_of xs i d no_piece (omega arith)
-
-  abbrev pub operands : Pieces
-  operands =
-      pieces_of (record { member = get_or xs 1 d; number = get_or xs 2 d; set = get_or xs 3 d; class = get_or xs 4 d; first = get_or xs 5 d; second = get_or xs 6 d })
-
-  behind : behind_letter (map piece_of xs) ≡ operands
-  behind = λ i. record { member = field 1 (omega arith) i; number = field 2 (omega arith) i; set = field 3 (omega arith) i; class = field 4 (omega arith) i; first = field 5 (omega arith) i; second = field 6 (omega arith) i }
-
-  pub letter_broken : (e : StepFault) → Err e ≡ letter_of (piece_of (get_or xs 0 d)) → Err e ≡ step_of (map piece_of xs)
-  letter_broken e h = ap (λ r. and_then r (λ l. step_by l (behind_letter (map piece_of xs)))) (h ∙ ap letter_of (sym (field 0 (omega arith))))
-
-  pub letter_read : (l : Letter) (r : Read Step) → Ok l ≡ letter_of (piece_of (get_or xs 0 d)) → r ≡ step_by l operands → r ≡ step_of (map piece_of xs)
-  letter_read l r h is =
-      is ∙ (ap (step_by l) (sym behind) ∙ ap (λ r. and_then r (λ l. step_by l (behind_letter (map piece_of xs)))) (h ∙ ap letter_of (sym (field 0 (omega arith)))))
+use Rattle.script.specs.Fields.{fault}
+use Rattle.script.specs.Steps.{and_then, step_of, step_within}
 
 -- As many fields as places: the places hold the fields.
 all_placed : (ps before : List Piece) → length ps ≡ length before → placed ps before ≡ ps
@@ -58,10 +36,6 @@ is_cut k cut h = go k.outcome refl h
     go (Err f) is h = let z : ◌≡◌ {A = ℕ} 0 1 = cc in absurd (omega arith)
 
 module _ (k : Cutting) (cut : Cut) (start : ℕ) (h : Ok cut ≡ answer k) where
-  pub miscounted : (cut.fields ≡ 7 → ⊥) → Err (fault FieldCount start) ≡ step_within start k.pieces k.outcome
-  miscounted other =
-      sym ((is_cut k cut h).within start ∙ ap (λ t. cond t (and_then (step_of k.pieces) (λ s. Ok (record { step = s; next = cut.next }))) (Err (fault FieldCount start))) (ne_eqb cut.fields 7 other))
-
   module _ (seven : cut.fields ≡ 7) (ps before : List Piece) (places : length before ≡ 7) (holds : ps ≡ placed k.pieces before) where
     same : ps ≡ k.pieces
     same = holds ∙ all_placed k.pieces before (let n = (is_cut k cut h).count in omega arith)

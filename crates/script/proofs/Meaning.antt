@@ -1,20 +1,22 @@
 -- A record is read as a step exactly where its texts write that step.
-use Rattle.std.proofs.Common.{◌≡◌, ℕ, ◌^◌, ◌<◌, ◌≤◌, Bool, true, false, cond, eqb, leb, List, [], ◌∷◌, length, get_or, Some, None, Ok, Err, decimal, Option, sym, refl, ap, ◌∙◌, subst, arith}
+use Rattle.std.proofs.Common.{◌≡◌, ℕ, ◌^◌, ◌<◌, ◌≤◌, Bool, true, false, cond, eqb, leb, List, [], ◌∷◌, length, get_or, Some, None, Ok, Err, decimal, Option, ok_or, option_and_then, sym, refl, ap, ◌∙◌, subst, arith}
 use Rattle.std.proofs.lemmas.Bool.{eqb-true, leb-true}
 use Rattle.machine.specs.declared.command.Command.{Command}
-use Rattle.machine.specs.declared.command.Command.TheVariants.{Set, Shift}
 use Rattle.ordering.specs.declared.calls.Call.{Call}
 use Rattle.ordering.specs.declared.calls.Call.TheVariants.{Open, Send, Hear, Gather, Settle, Run}
+use Rattle.ordering.proofs.Basics.{some_inj, none_some}
 use Rattle.record.specs.Bytes.{Piece}
 use Rattle.script.specs.declared.faults.Cause.TheVariants.{BadNumber, NotEmpty, UnknownLetter}
+use Rattle.script.specs.declared.steps.CommandKind.{CommandKind}
+use Rattle.script.specs.declared.steps.CommandKind.TheVariants.{Set as SetKind, Shift as ShiftKind, Couple as CoupleKind, Mark as MarkKind}
 use Rattle.script.specs.declared.steps.Letter.{Letter}
 use Rattle.script.specs.declared.steps.Letter.TheVariants.{O, S, H, G, T, R}
 use Rattle.script.specs.declared.steps.MachineKind.{MachineKind}
 use Rattle.script.specs.declared.steps.MachineKind.TheVariants.{AxisBank, Recorder, Tally}
 use Rattle.script.specs.declared.steps.Step.{Step}
-use Rattle.script.specs.Fields.{Read, any_number, empty, fault, kind_of, kind_or, number_or, up_to, up_to_or}
+use Rattle.script.specs.Fields.{Read, any_number, at_most, command_kind, empty, fault, kind_of, machine_kind, number_as, up_to}
 use Rattle.script.specs.Numbers.{numeral}
-use Rattle.script.specs.Steps.{Pieces, and_then, asks, axis_and_word, blank, command_by, command_of, destination_of, letter_of, named_step, open_step, run_step, send_step, step_by, two_axes, word_alone}
+use Rattle.script.specs.Steps.{Pieces, and_then, asks, axis_and_word, blank, command_by, command_of, destination_of, letter_of, named_step, open_step, run_step, send_step, step_by}
 use Rattle.script.specs.Texts.{CommandText, StepText, couple, gathers, hears, kind_number, mark, opens, runs, sends, set, settles, shift}
 use Rattle.script.proofs.Numerals.{reads_numeral}
 
@@ -27,24 +29,43 @@ pub has_then : {A B : Type 0} (P : A → Type 0) (Q : B → Type 0) (r : Read A)
 has_then P Q (Ok x) more p h = h x p
 has_then P Q (Err e) more p h = tt
 
+has_as : {A : Type 0} (P Q : A → Type 0) (r : Read A) → Has P r → ((x : A) → P x → Q x) → Has Q r
+has_as P Q (Ok x) p h = h x p
+has_as P Q (Err e) p h = tt
+
+-- A text that writes a number of at most fifteen digits, which stands for a value.
+record Writes {A : Type 0} (of : ℕ → Option A) (text : List ℕ) (x : A) : Type 0 where
+  number : ℕ
+  digits : text ≡ decimal number
+  few : number < 10 ^ 15
+  stands : of number ≡ Some x
+
+number_as_says : {A : Type 0} (of : ℕ → Option A) (p : Piece) → Has (Writes of p.text) (number_as of p)
+number_as_says {A} of p = go (numeral p.text) refl
+  where
+    by : (n : ℕ) → numeral p.text ≡ Some n → (o : Option A) → of n ≡ o → Has (Writes of p.text) (ok_or o (fault BadNumber p.at))
+    by n e None is = tt
+    by n e (Some x) is = let w = (reads_numeral p.text).only n e in record { number = n; digits = w.0; few = w.1; stands = is }
+
+    go : (o : Option ℕ) → numeral p.text ≡ o → Has (Writes of p.text) (ok_or (option_and_then of o) (fault BadNumber p.at))
+    go None e = tt
+    go (Some n) e = by n e (of n) refl
+
 -- What each kind of field says of its text.
 pub number_says : (p : Piece) → Has (λ (n : ℕ). (p.text ≡ decimal n) × (n < 10 ^ 15)) (any_number p)
-number_says p = go (numeral p.text) refl
+number_says p =
+    has_as (Writes Some p.text) _ (any_number p) (number_as_says Some p) (λ n w. let same : w.number ≡ n = some_inj w.stands in subst (λ k. (p.text ≡ decimal k) × (k < 10 ^ 15)) same (w.digits, w.few))
+
+at_most_is : (most n k : ℕ) → at_most most n ≡ Some k → (n ≡ k) × (k ≤ most)
+at_most_is most n k e = go (leb n most) refl e
   where
-    go : (o : Option ℕ) → numeral p.text ≡ o → Has (λ (n : ℕ). (p.text ≡ decimal n) × (n < 10 ^ 15)) (number_or (fault BadNumber p.at) o)
-    go None e = tt
-    go (Some n) e = (reads_numeral p.text).only n e
+    go : (t : Bool) → leb n most ≡ t → cond t (Some n) None ≡ Some k → (n ≡ k) × (k ≤ most)
+    go true l h = let same : n ≡ k = some_inj h in (same, subst (λ m. m ≤ most) same (leb-true n most l))
+    go false l h = absurd (none_some h)
 
 up_to_says : (most : ℕ) (p : Piece) → Has (λ (n : ℕ). (p.text ≡ decimal n) × (n ≤ most)) (up_to most p)
-up_to_says most p = go (numeral p.text) refl
-  where
-    within : (n : ℕ) → numeral p.text ≡ Some n → (t : Bool) → leb n most ≡ t → Has (λ (k : ℕ). (p.text ≡ decimal k) × (k ≤ most)) (cond t (Ok n) (Err (fault BadNumber p.at)))
-    within n e true l = (((reads_numeral p.text).only n e).0, leb-true n most l)
-    within n e false l = tt
-
-    go : (o : Option ℕ) → numeral p.text ≡ o → Has (λ (n : ℕ). (p.text ≡ decimal n) × (n ≤ most)) (up_to_or (fault BadNumber p.at) most o)
-    go None e = tt
-    go (Some n) e = within n e (leb n most) refl
+up_to_says most p =
+    has_as (Writes (at_most most) p.text) _ (up_to most p) (number_as_says (at_most most) p) (λ n w. let is = at_most_is most w.number n w.stands in (w.digits ∙ ap decimal is.0, is.1))
 
 nothing_in : (bs : List ℕ) → length bs ≡ 0 → bs ≡ []
 nothing_in [] e = refl
@@ -57,22 +78,38 @@ empty_says p = go (eqb (length p.text) 0) refl
     go true e = nothing_in p.text (eqb-true (length p.text) 0 e)
     go false e = tt
 
--- A number that is one of a few.
-numbered : (p : Piece) (n k : ℕ) → numeral p.text ≡ Some n → eqb n k ≡ true → p.text ≡ decimal k
-numbered p n k e t = ((reads_numeral p.text).only n e).0 ∙ ap decimal (eqb-true n k t)
+machine_kind_is : (n : ℕ) (k : MachineKind) → machine_kind n ≡ Some k → n ≡ kind_number k
+machine_kind_is n k = go (eqb n 1) (eqb n 2) (eqb n 3) refl refl refl
+  where
+    go : (a b c : Bool) → eqb n 1 ≡ a → eqb n 2 ≡ b → eqb n 3 ≡ c → cond a (Some AxisBank) (cond b (Some Recorder) (cond c (Some Tally) None)) ≡ Some k → n ≡ kind_number k
+    go true b c x y z h = eqb-true n 1 x ∙ ap kind_number (some_inj h)
+    go false true c x y z h = eqb-true n 2 y ∙ ap kind_number (some_inj h)
+    go false false true x y z h = eqb-true n 3 z ∙ ap kind_number (some_inj h)
+    go false false false x y z h = absurd (none_some h)
 
 kind_says : (p : Piece) → Has (λ (k : MachineKind). p.text ≡ decimal (kind_number k)) (kind_of p)
-kind_says p = go (numeral p.text) refl
-  where
-    by : (n : ℕ) → numeral p.text ≡ Some n → (a b c : Bool) → eqb n 1 ≡ a → eqb n 2 ≡ b → eqb n 3 ≡ c → Has (λ (k : MachineKind). p.text ≡ decimal (kind_number k)) (cond a (Ok AxisBank) (cond b (Ok Recorder) (cond c (Ok Tally) (Err (fault BadNumber p.at)))))
-    by n e true b c x y z = numbered p n 1 e x
-    by n e false true c x y z = numbered p n 2 e y
-    by n e false false true x y z = numbered p n 3 e z
-    by n e false false false x y z = tt
+kind_says p =
+    has_as (Writes machine_kind p.text) _ (kind_of p) (number_as_says machine_kind p) (λ k w. w.digits ∙ ap decimal (machine_kind_is w.number k w.stands))
 
-    go : (o : Option ℕ) → numeral p.text ≡ o → Has (λ (k : MachineKind). p.text ≡ decimal (kind_number k)) (kind_or (fault BadNumber p.at) o)
-    go None e = tt
-    go (Some n) e = by n e (eqb n 1) (eqb n 2) (eqb n 3) refl refl refl
+abbrev command_number : CommandKind → ℕ
+command_number SetKind = 1
+command_number ShiftKind = 2
+command_number CoupleKind = 3
+command_number MarkKind = 4
+
+command_kind_is : (n : ℕ) (k : CommandKind) → command_kind n ≡ Some k → n ≡ command_number k
+command_kind_is n k = go (eqb n 1) (eqb n 2) (eqb n 3) (eqb n 4) refl refl refl refl
+  where
+    go : (a b c d : Bool) → eqb n 1 ≡ a → eqb n 2 ≡ b → eqb n 3 ≡ c → eqb n 4 ≡ d → cond a (Some SetKind) (cond b (Some ShiftKind) (cond c (Some CoupleKind) (cond d (Some MarkKind) None))) ≡ Some k → n ≡ command_number k
+    go true b c d x y z w h = eqb-true n 1 x ∙ ap command_number (some_inj h)
+    go false true c d x y z w h = eqb-true n 2 y ∙ ap command_number (some_inj h)
+    go false false true d x y z w h = eqb-true n 3 z ∙ ap command_number (some_inj h)
+    go false false false true x y z w h = eqb-true n 4 w ∙ ap command_number (some_inj h)
+    go false false false false x y z w h = absurd (none_some h)
+
+command_kind_says : (p : Piece) → Has (λ (k : CommandKind). p.text ≡ decimal (command_number k)) (number_as command_kind p)
+command_kind_says p =
+    has_as (Writes command_kind p.text) _ (number_as command_kind p) (number_as_says command_kind p) (λ k w. w.digits ∙ ap decimal (command_kind_is w.number k w.stands))
 
 abbrev pub letter_byte : Letter → ℕ
 letter_byte O = 79
@@ -115,27 +152,28 @@ module _ (f : Pieces) where
   as_they_are {c} {class} {first} {second} a b d w =
       subst (λ z. CommandText c z f.first.text f.second.text) (sym a) (subst (λ y. CommandText c class y f.second.text) (sym b) (subst (λ x. CommandText c class first x) (sym d) w))
 
-  command_says : Has Commands (command_of f)
-  command_says = go (numeral f.class.text) refl
-    where
-      by : (n : ℕ) → numeral f.class.text ≡ Some n → (a b c d : Bool) → eqb n 1 ≡ a → eqb n 2 ≡ b → eqb n 3 ≡ c → eqb n 4 ≡ d → Has Commands (cond a (axis_and_word Set f) (cond b (axis_and_word Shift f) (cond c (two_axes f) (cond d (word_alone f) (Err (fault BadNumber f.class.at))))))
-      by n e true b c d u v w x =
-          has_then (λ (k : ℕ). (f.first.text ≡ decimal k) × (k ≤ 255)) Commands (up_to 255 f.first) _ (up_to_says 255 f.first)
-          (λ axis p. has_then (λ (k : ℕ). (f.second.text ≡ decimal k) × (k ≤ 4294967295)) Commands (up_to 4294967295 f.second) _ (up_to_says 4294967295 f.second) (λ word q. as_they_are (numbered f.class n 1 e u) p.0 q.0 (set p.1 q.1)))
-      by n e false true c d u v w x =
-          has_then (λ (k : ℕ). (f.first.text ≡ decimal k) × (k ≤ 255)) Commands (up_to 255 f.first) _ (up_to_says 255 f.first)
-          (λ axis p. has_then (λ (k : ℕ). (f.second.text ≡ decimal k) × (k ≤ 4294967295)) Commands (up_to 4294967295 f.second) _ (up_to_says 4294967295 f.second) (λ word q. as_they_are (numbered f.class n 2 e v) p.0 q.0 (shift p.1 q.1)))
-      by n e false false true d u v w x =
-          has_then (λ (k : ℕ). (f.first.text ≡ decimal k) × (k ≤ 255)) Commands (up_to 255 f.first) _ (up_to_says 255 f.first)
-          (λ source p. has_then (λ (k : ℕ). (f.second.text ≡ decimal k) × (k ≤ 255)) Commands (up_to 255 f.second) _ (up_to_says 255 f.second) (λ to q. as_they_are (numbered f.class n 3 e w) p.0 q.0 (couple p.1 q.1)))
-      by n e false false false true u v w x =
-          has_then (λ (k : ℕ). (f.first.text ≡ decimal k) × (k ≤ 4294967295)) Commands (up_to 4294967295 f.first) _ (up_to_says 4294967295 f.first)
-          (λ code p. has_then (λ (u : Unit {0}). f.second.text ≡ []) Commands (empty f.second) _ (empty_says f.second) (λ _ q. as_they_are (numbered f.class n 4 e x) p.0 q (mark p.1)))
-      by n e false false false false u v w x = tt
+  -- An axis and a word are written.
+  abbrev AxisAndWord : ℕ × ℕ → Type 0
+  AxisAndWord d = (f.first.text ≡ decimal d.0) × (d.0 ≤ 255) × (f.second.text ≡ decimal d.1) × (d.1 ≤ 4294967295)
 
-      go : (o : Option ℕ) → numeral f.class.text ≡ o → Has Commands (command_by o f)
-      go None e = tt
-      go (Some n) e = by n e (eqb n 1) (eqb n 2) (eqb n 3) (eqb n 4) refl refl refl refl
+  axis_and_word_says : Has AxisAndWord (axis_and_word f)
+  axis_and_word_says =
+      has_then (λ (k : ℕ). (f.first.text ≡ decimal k) × (k ≤ 255)) AxisAndWord (up_to 255 f.first) _ (up_to_says 255 f.first)
+      (λ axis p. has_then (λ (k : ℕ). (f.second.text ≡ decimal k) × (k ≤ 4294967295)) AxisAndWord (up_to 4294967295 f.second) _ (up_to_says 4294967295 f.second) (λ word q. (p.0, p.1, q.0, q.1)))
+
+  command_says : Has Commands (command_of f)
+  command_says =
+      has_then (λ (k : CommandKind). f.class.text ≡ decimal (command_number k)) Commands (number_as command_kind f.class) (λ k. command_by k f) (command_kind_says f.class) by
+    where
+      by : (k : CommandKind) → f.class.text ≡ decimal (command_number k) → Has Commands (command_by k f)
+      by SetKind e = has_then AxisAndWord Commands (axis_and_word f) _ axis_and_word_says (λ d w. as_they_are e w.0 w.2 (set w.1 w.3))
+      by ShiftKind e = has_then AxisAndWord Commands (axis_and_word f) _ axis_and_word_says (λ d w. as_they_are e w.0 w.2 (shift w.1 w.3))
+      by CoupleKind e =
+          has_then (λ (k : ℕ). (f.first.text ≡ decimal k) × (k ≤ 255)) Commands (up_to 255 f.first) _ (up_to_says 255 f.first)
+          (λ source p. has_then (λ (k : ℕ). (f.second.text ≡ decimal k) × (k ≤ 255)) Commands (up_to 255 f.second) _ (up_to_says 255 f.second) (λ to q. as_they_are e p.0 q.0 (couple p.1 q.1)))
+      by MarkKind e =
+          has_then (λ (k : ℕ). (f.first.text ≡ decimal k) × (k ≤ 4294967295)) Commands (up_to 4294967295 f.first) _ (up_to_says 4294967295 f.first)
+          (λ code p. has_then (λ (u : Unit {0}). f.second.text ≡ []) Commands (empty f.second) _ (empty_says f.second) (λ _ q. as_they_are e p.0 q (mark p.1)))
 
 -- The step of seven fields.
 module _ (l : Piece) (f : Pieces) where

@@ -1,5 +1,5 @@
 -- A numeral is what `decimal` writes.
-use Rattle.std.proofs.Common.{◌≡◌, ℕ, ◌^◌, ◌<◌, ◌≤◌, Bool, true, false, cond, not, ◌&&◌, ◌||◌, eqb, ltb, leb, ◌⊎◌, List, length, get_or, Some, None, decimal, sym, refl, ap, ◌∙◌, subst, inl, inr, ⊎_elim, true≢false, arith, rules}
+use Rattle.std.proofs.Common.{◌≡◌, ℕ, ◌^◌, ◌<◌, ◌≤◌, Bool, true, false, cond, not, ◌&&◌, ◌||◌, eqb, ltb, leb, List, length, get_or, Some, None, decimal, sym, refl, ap, ◌∙◌, subst, ⊎_elim, true≢false, arith, rules}
 use Rattle.std.specs.Str.{all_ascii_digits}
 use Rattle.std.proofs.lemmas.Fmt.{digits_decimal, digits_value-decimal, length-decimal-le, decimal_nonempty, first_decimal, decimal_digit, decimal-digits_value}
 use Rattle.std.proofs.lemmas.Str.Parse.{IsNumeralModel, numerals_by_fold, tells_all_ascii_digits, digits_value_short}
@@ -38,11 +38,8 @@ shapes bs s =
     go true e = eq-eqb (length bs) 1 (s.leads (eqb-true (get_or bs 0 0) 48 e))
     go false e = refl
 
--- Bytes of another shape are no number; of this shape they are one if they are digits.
-pub misshapen : (bs : List ℕ) → shaped bs ≡ false → None ≡ numeral bs
-misshapen bs e = sym (ap (λ t. cond (t && all_ascii_digits bs) (Some (read_digits 0 bs)) None) e)
-
-pub well_shaped : (bs : List ℕ) → shaped bs ≡ true → cond (all_ascii_digits bs) (Some (read_digits 0 bs)) None ≡ numeral bs
+-- Bytes of this shape are a number if they are digits.
+well_shaped : (bs : List ℕ) → shaped bs ≡ true → cond (all_ascii_digits bs) (Some (read_digits 0 bs)) None ≡ numeral bs
 well_shaped bs e = sym (ap (λ t. cond (t && all_ascii_digits bs) (Some (read_digits 0 bs)) None) e)
 
 -- What `decimal` writes of a number with at most fifteen digits has the shape, and reads as that number.
@@ -73,39 +70,3 @@ only bs n e = go (shaped bs) (all_ascii_digits bs) refl refl e
 
 pub reads_numeral : (bs : List ℕ) → Reads bs (numeral bs)
 reads_numeral bs = record { found = λ n small e. ap numeral e ∙ found n small; only = only bs }
-
-pub few_shaped : (bs : List ℕ) → shaped bs ≡ true → length bs ≤ 15
-few_shaped bs e = (shape bs e).few
-
--- The test, by what stands first.
-pub none_there : (bs : List ℕ) → length bs < 1 → false ≡ shaped bs
-none_there bs lt = go (shaped bs) refl
-  where
-    go : (t : Bool) → shaped bs ≡ t → false ≡ t
-    go true e = let s = (shape bs e).some in absurd (omega arith)
-    go false e = refl
-
-pub leading_zero : (bs : List ℕ) → 2 ≤ length bs → get_or bs 0 0 ≡ 48 → false ≡ shaped bs
-leading_zero bs le z = go (shaped bs) refl
-  where
-    go : (t : Bool) → shaped bs ≡ t → false ≡ t
-    go true e = let s = (shape bs e).leads z in absurd (omega arith)
-    go false e = refl
-
-other_front : (bs : List ℕ) → 1 ≤ length bs → (length bs < 2) ⊎ (get_or bs 0 0 ≡ 48 → ⊥) → leb (length bs) 15 ≡ shaped bs
-other_front bs some front = go (leb (length bs) 15) (shaped bs) refl refl
-  where
-    lead_from : get_or bs 0 0 ≡ 48 → length bs ≡ 1
-    lead_from z = ⊎_elim (λ lt. omega arith) (λ n. absurd (n z)) front
-
-    go : (u t : Bool) → leb (length bs) 15 ≡ u → shaped bs ≡ t → u ≡ t
-    go true true e f = refl
-    go false false e f = refl
-    go true false e f = absurd (true≢false (sym (shapes bs (record { some = omega arith; few = leb-true (length bs) 15 e; leads = lead_from })) ∙ f))
-    go false true e f = let s = (shape bs f).few in absurd (true≢false (sym (le-leb (length bs) 15 s) ∙ e))
-
-pub one_alone : (bs : List ℕ) → 1 ≤ length bs → length bs < 2 → leb (length bs) 15 ≡ shaped bs
-one_alone bs some lt = other_front bs some (inl lt)
-
-pub no_zero : (bs : List ℕ) → 2 ≤ length bs → (get_or bs 0 0 ≡ 48 → ⊥) → leb (length bs) 15 ≡ shaped bs
-no_zero bs le other = other_front bs (omega arith) (inr other)

@@ -1,5 +1,5 @@
 -- The step that the seven fields of a record ask for.
-use Rattle.std.specs.Prelude.{ℕ, ◌+◌, ◌<◌, ◌≤◌, cond, List, [], length, Some, None, Ok, Err, Option, Result, ◌==◌, slice_index, slice_index_or}
+use Rattle.std.specs.Prelude.{ℕ, ◌+◌, ◌<◌, ◌≤◌, cond, List, [], length, Some, None, Ok, Err, Result, ◌==◌, slice_index, slice_index_or}
 use Rattle.machine.specs.declared.command.Command.{Command}
 use Rattle.machine.specs.declared.command.Command.TheVariants.{Set, Shift, Couple, Mark}
 use Rattle.ordering.specs.declared.calls.Call.{Call}
@@ -7,14 +7,15 @@ use Rattle.ordering.specs.declared.calls.Call.TheVariants.{Open, Send, Hear, Gat
 use Rattle.record.specs.Bytes.{Piece, piece, piece_of}
 use Rattle.record.specs.Cut.{Ended, cut_record}
 use Rattle.record.specs.declared.TextFault.{TextFault}
-use Rattle.script.specs.declared.faults.Cause.TheVariants.{BadText, FieldCount, UnknownLetter, BadNumber}
+use Rattle.script.specs.declared.faults.Cause.TheVariants.{BadText, FieldCount, UnknownLetter}
 use Rattle.script.specs.declared.operands.Operands.{Operands}
+use Rattle.script.specs.declared.steps.CommandKind.{CommandKind}
+use Rattle.script.specs.declared.steps.CommandKind.TheVariants.{Set as SetKind, Shift as ShiftKind, Couple as CoupleKind, Mark as MarkKind}
 use Rattle.script.specs.declared.steps.Letter.{Letter}
 use Rattle.script.specs.declared.steps.Letter.TheVariants.{O, S, H, G, T, R}
 use Rattle.script.specs.declared.steps.Step.{Step}
 use Rattle.script.specs.declared.steps.StepRead.{StepRead}
-use Rattle.script.specs.Fields.{Read, fault, any_number, up_to, empty, kind_of}
-use Rattle.script.specs.Numbers.{numeral}
+use Rattle.script.specs.Fields.{Read, fault, number_as, any_number, up_to, empty, kind_of, command_kind}
 
 -- One field first, and then what it leads to: fields are read from left to right, and the first fault stands.
 abbrev pub and_then : {A B : Type 0} → Read A → (A → Read B) → Read B
@@ -48,8 +49,8 @@ open_step f =
     and_then (up_to 255 f.member) (λ n. and_then (any_number f.number) (λ last. blank f.set (and_then (kind_of f.class) (λ k. blank f.first (blank f.second (Ok (record { call = Open n last; kind = Some k })))))))
 
 -- The command of a send, by its class: Set and Shift have an axis and a word, Couple two axes, Mark one word.
-abbrev pub axis_and_word : (ℕ → ℕ → Command) → Pieces → Read Command
-axis_and_word make f = and_then (up_to 255 f.first) (λ axis. and_then (up_to 4294967295 f.second) (λ w. Ok (make axis w)))
+abbrev pub axis_and_word : Pieces → Read (ℕ × ℕ)
+axis_and_word f = and_then (up_to 255 f.first) (λ axis. and_then (up_to 4294967295 f.second) (λ w. Ok (axis, w)))
 
 abbrev pub two_axes : Pieces → Read Command
 two_axes f = and_then (up_to 255 f.first) (λ source. and_then (up_to 255 f.second) (λ to. Ok (Couple source to)))
@@ -57,13 +58,14 @@ two_axes f = and_then (up_to 255 f.first) (λ source. and_then (up_to 255 f.seco
 abbrev pub word_alone : Pieces → Read Command
 word_alone f = and_then (up_to 4294967295 f.first) (λ code. blank f.second (Ok (Mark code)))
 
-abbrev pub command_by : Option ℕ → Pieces → Read Command
-command_by None f = Err (fault BadNumber f.class.at)
-command_by (Some n) f =
-    cond (n == 1) (axis_and_word Set f) (cond (n == 2) (axis_and_word Shift f) (cond (n == 3) (two_axes f) (cond (n == 4) (word_alone f) (Err (fault BadNumber f.class.at)))))
+abbrev pub command_by : CommandKind → Pieces → Read Command
+command_by SetKind f = and_then (axis_and_word f) (λ d. Ok (Set d.0 d.1))
+command_by ShiftKind f = and_then (axis_and_word f) (λ d. Ok (Shift d.0 d.1))
+command_by CoupleKind f = two_axes f
+command_by MarkKind f = word_alone f
 
 abbrev pub command_of : Pieces → Read Command
-command_of f = command_by (numeral f.class.text) f
+command_of f = and_then (number_as command_kind f.class) (λ k. command_by k f)
 
 -- S uses member as the sender, set, class, first and second.
 abbrev pub send_step : Pieces → Read Step

@@ -10,23 +10,23 @@ pub enum Layer {
     Trace,
 }
 
-/// What is wrong.
+/// What is wrong, by the number that a trace shows for it.
 #[derive(Clone, Copy, PartialEq, Eq, Debug)]
 pub enum Cause {
     /// The script has more than 65,536 bytes.
-    ScriptTooLong,
+    ScriptTooLong = 20,
     /// The text is no RFC 4180 record.
-    BadText,
+    BadText = 21,
     /// The record has not seven fields.
-    FieldCount,
+    FieldCount = 22,
     /// The first field is none of the six letters.
-    UnknownLetter,
+    UnknownLetter = 23,
     /// A field that the step uses is no number within its limits.
-    BadNumber,
+    BadNumber = 24,
     /// A field that the step does not use is not empty.
-    NotEmpty,
+    NotEmpty = 25,
     /// Fewer than 48 bytes of the trace are left.
-    TraceFull,
+    TraceFull = 26,
 }
 
 impl Cause {
@@ -34,15 +34,13 @@ impl Cause {
     pub fn row(self) -> (Layer, u8)
         ensures { result ≡ row self }
     {
-        match self {
-            Cause::ScriptTooLong => (Layer::Trace, 20),
-            Cause::BadText => (Layer::Text, 21),
-            Cause::FieldCount => (Layer::Step, 22),
-            Cause::UnknownLetter => (Layer::Step, 23),
-            Cause::BadNumber => (Layer::Step, 24),
-            Cause::NotEmpty => (Layer::Step, 25),
-            Cause::TraceFull => (Layer::Trace, 26),
-        }
+        let layer = match self {
+            Cause::BadText => Layer::Text,
+            Cause::FieldCount | Cause::UnknownLetter | Cause::BadNumber | Cause::NotEmpty =>
+                Layer::Step,
+            Cause::ScriptTooLong | Cause::TraceFull => Layer::Trace,
+        };
+        (layer, self as u8)
     }
 }
 

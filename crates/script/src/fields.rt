@@ -1,62 +1,93 @@
 //! What one field says to a step.
-ghost use Rattle.std.specs.Prelude.{◌≡◌};
+ghost use Rattle.std.specs.Prelude.{◌≡◌, ℕ, Some, Option};
 ghost use Rattle.record.specs.Bytes.{piece_of};
-ghost use Rattle.script.specs.Fields.{any_number, empty, fault, kind_of, up_to};
-ghost use Rattle.script.specs.declared.faults.Cause.TheVariants.{BadNumber};
+ghost use Rattle.script.specs.Fields.{at_most, command_kind, empty, fault, machine_kind, number_as};
+ghost use Rattle.script.specs.declared.faults.Cause.TheVariants.{BadNumber, NotEmpty};
 
 use crate::faults::Cause;
 use crate::numbers::number;
-use crate::steps::{MachineKind, StepFault};
+use crate::steps::{CommandKind, MachineKind, StepFault};
 use record::Field;
 
-/// The fault of a field that is no number within its limits.
-pub(crate) fn bad_number(field: Field<'_>) -> StepFault
-    ensures { result ≡ fault BadNumber field.entry.at }
-{
-    StepFault {
-        cause: Cause::BadNumber,
-        at: field.at,
+/// What the number in a field may stand for.
+// `TryFrom<u64>` says what it gives as a relation, which each caller would have to work out.
+pub(crate) trait FromNumber: Copy {
+    ghost from_number: { ℕ → Option Self };
+
+    /// What the number stands for, if it is within the limits.
+    fn from_number(number: u64) -> Option<Self>
+        ensures { result ≡ from_number number };
+}
+
+impl FromNumber for u8 {
+    ghost from_number = { at_most 255 };
+
+    fn from_number(number: u64) -> Option<Self> {
+        u8::try_from(number).ok()
     }
 }
 
-/// A number of at most 15 digits.
-pub(crate) fn any_number(field: Field<'_>) -> Result<u64, StepFault>
-    ensures { result ≡ any_number (piece_of field.entry) }
-{
-    match number(field.text) {
-        Some(n) => Ok(n),
-        None => Err(bad_number(field)),
+impl FromNumber for u16 {
+    ghost from_number = { at_most 65535 };
+
+    fn from_number(number: u64) -> Option<Self> {
+        u16::try_from(number).ok()
     }
 }
 
-/// A number up to 255.
-pub(crate) fn byte(field: Field<'_>) -> Result<u8, StepFault>
-    ensures { result ≡ up_to 255 (piece_of field.entry) }
-{
-    match number(field.text) {
-        Some(n) if n <= 255 => Ok(n as u8),
-        _ => Err(bad_number(field)),
+impl FromNumber for u32 {
+    ghost from_number = { at_most 4294967295 };
+
+    fn from_number(number: u64) -> Option<Self> {
+        u32::try_from(number).ok()
     }
 }
 
-/// A number up to 65535, the set.
-pub(crate) fn set(field: Field<'_>) -> Result<u16, StepFault>
-    ensures { result ≡ up_to 65535 (piece_of field.entry) }
-{
-    match number(field.text) {
-        Some(n) if n <= 65535 => Ok(n as u16),
-        _ => Err(bad_number(field)),
+impl FromNumber for u64 {
+    ghost from_number = { Some };
+
+    fn from_number(number: u64) -> Option<Self> {
+        Some(number)
     }
 }
 
-/// A number up to 4294967295.
-pub(crate) fn word(field: Field<'_>) -> Result<u32, StepFault>
-    ensures { result ≡ up_to 4294967295 (piece_of field.entry) }
-{
-    match number(field.text) {
-        Some(n) if n <= 4294967295 => Ok(n as u32),
-        _ => Err(bad_number(field)),
+impl FromNumber for MachineKind {
+    ghost from_number = { machine_kind };
+
+    fn from_number(number: u64) -> Option<Self> {
+        match number {
+            1 => Some(MachineKind::AxisBank),
+            2 => Some(MachineKind::Recorder),
+            3 => Some(MachineKind::Tally),
+            _ => None,
+        }
     }
+}
+
+impl FromNumber for CommandKind {
+    ghost from_number = { command_kind };
+
+    fn from_number(number: u64) -> Option<Self> {
+        match number {
+            1 => Some(CommandKind::Set),
+            2 => Some(CommandKind::Shift),
+            3 => Some(CommandKind::Couple),
+            4 => Some(CommandKind::Mark),
+            _ => None,
+        }
+    }
+}
+
+/// What a field's number stands for.
+pub(crate) fn number_as<N: FromNumber>(field: Field<'_>) -> Result<N, StepFault>
+    ensures { result ≡ number_as N.from_number (piece_of field.entry) }
+{
+    number(field.text)
+        .and_then(|n| N::from_number(n))
+        .ok_or(StepFault {
+            cause: Cause::BadNumber,
+            at: field.at,
+        })
 }
 
 /// A field that the step does not use.
@@ -70,17 +101,5 @@ pub(crate) fn empty(field: Field<'_>) -> Result<(), StepFault>
             cause: Cause::NotEmpty,
             at: field.at,
         })
-    }
-}
-
-/// The kind of the machines: 1, 2 or 3.
-pub(crate) fn kind(field: Field<'_>) -> Result<MachineKind, StepFault>
-    ensures { result ≡ kind_of (piece_of field.entry) }
-{
-    match number(field.text) {
-        Some(1) => Ok(MachineKind::AxisBank),
-        Some(2) => Ok(MachineKind::Recorder),
-        Some(3) => Ok(MachineKind::Tally),
-        _ => Err(bad_number(field)),
     }
 }

@@ -9,7 +9,7 @@ fn read_digits(text: &[u8]) -> Option<u64>
     ensures { result ≡ (if all_ascii_digits text.now then Some (read_digits 0 text.now) else None) }
 {
     let mut number = 0;
-    for b in text.iter() {
+    for b in text {
         if !b.is_ascii_digit() {
             return None;
         }

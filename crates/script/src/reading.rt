@@ -1,15 +1,14 @@
 //! From the fields of a record to a step.
 ghost use Rattle.std.specs.Prelude.{◌≡◌};
 ghost use Rattle.record.specs.Bytes.{piece_of};
-ghost use Rattle.script.specs.Steps.{asks, axis_and_word, command_of, destination_of, letter_of, named_step, open_step, pieces_of, run_step, send_step, step_by, two_axes, word_alone};
+ghost use Rattle.script.specs.Steps.{asks, axis_and_word, command_of, destination_of, letter_of, open_step, pieces_of, run_step, send_step, step_by, two_axes, word_alone};
 ghost use Rattle.machine.specs.declared.command.Command.TheVariants.{Set, Shift};
 ghost use Rattle.ordering.specs.declared.calls.Call.TheVariants.{Gather, Hear, Settle};
 
 use crate::faults::Cause;
-use crate::fields::{any_number, bad_number, byte, empty, kind, set, word};
-use crate::numbers::number;
+use crate::fields::{empty, number_as};
 use crate::operands::Operands;
-use crate::steps::{Letter, Step, StepFault};
+use crate::steps::{CommandKind, Letter, Step, StepFault};
 use machine::command::Command;
 use ordering::calls::Call;
 use record::Field;
@@ -25,6 +24,7 @@ pub(crate) fn letter(field: Field<'_>) -> Result<Letter, StepFault>
     let [b] = field.text else {
         return Err(unknown);
     };
+    // The format names its letters as characters: a literal for each, and every other one is refused.
     match char::from(*b) {
         'O' => Ok(Letter::O),
         'S' => Ok(Letter::S),
@@ -47,10 +47,10 @@ fn ask(call: Call) -> Step
 fn open(f: Operands<'_>) -> Result<Step, StepFault>
     ensures { result ≡ open_step (pieces_of f.entry) }
 {
-    let members = byte(f.member)?;
-    let last = any_number(f.number)?;
+    let members = number_as(f.member)?;
+    let last = number_as(f.number)?;
     empty(f.set)?;
-    let kind = kind(f.class)?;
+    let kind = number_as(f.class)?;
     empty(f.first)?;
     empty(f.second)?;
     Ok(Step {
@@ -63,8 +63,8 @@ fn open(f: Operands<'_>) -> Result<Step, StepFault>
 fn couple(f: Operands<'_>) -> Result<Command, StepFault>
     ensures { result ≡ two_axes (pieces_of f.entry) }
 {
-    let from = byte(f.first)?;
-    let to = byte(f.second)?;
+    let from = number_as(f.first)?;
+    let to = number_as(f.second)?;
     Ok(Command::Couple { from, to })
 }
 
@@ -72,39 +72,30 @@ fn couple(f: Operands<'_>) -> Result<Command, StepFault>
 fn mark(f: Operands<'_>) -> Result<Command, StepFault>
     ensures { result ≡ word_alone (pieces_of f.entry) }
 {
-    let code = word(f.first)?;
+    let code = number_as(f.first)?;
     empty(f.second)?;
     Ok(Command::Mark { code })
 }
 
 /// An axis and a word.
-fn set_axis(f: Operands<'_>) -> Result<Command, StepFault>
-    ensures { result ≡ axis_and_word Set (pieces_of f.entry) }
+fn axis_and_word(f: Operands<'_>) -> Result<(u8, u32), StepFault>
+    ensures { result ≡ axis_and_word (pieces_of f.entry) }
 {
-    let axis = byte(f.first)?;
-    let value = word(f.second)?;
-    Ok(Command::Set { axis, value })
-}
-
-/// An axis and a word.
-fn shift_axis(f: Operands<'_>) -> Result<Command, StepFault>
-    ensures { result ≡ axis_and_word Shift (pieces_of f.entry) }
-{
-    let axis = byte(f.first)?;
-    let amount = word(f.second)?;
-    Ok(Command::Shift { axis, amount })
+    Ok((number_as(f.first)?, number_as(f.second)?))
 }
 
 /// The command of a send, by its class.
 fn command(f: Operands<'_>) -> Result<Command, StepFault>
     ensures { result ≡ command_of (pieces_of f.entry) }
 {
-    match number(f.class.text) {
-        Some(1) => set_axis(f),
-        Some(2) => shift_axis(f),
-        Some(3) => couple(f),
-        Some(4) => mark(f),
-        _ => Err(bad_number(f.class)),
+    match number_as(f.class)? {
+        CommandKind::Set => axis_and_word(f).map(|(axis, value)| Command::Set { axis, value }),
+        CommandKind::Shift => axis_and_word(f).map(|(axis, amount)| Command::Shift {
+            axis,
+            amount,
+        }),
+        CommandKind::Couple => couple(f),
+        CommandKind::Mark => mark(f),
     }
 }
 
@@ -112,9 +103,9 @@ fn command(f: Operands<'_>) -> Result<Command, StepFault>
 fn send(f: Operands<'_>) -> Result<Step, StepFault>
     ensures { result ≡ send_step (pieces_of f.entry) }
 {
-    let sender = byte(f.member)?;
+    let sender = number_as(f.member)?;
     empty(f.number)?;
-    let set = set(f.set)?;
+    let set = number_as(f.set)?;
     let command = command(f)?;
     Ok(ask(Call::Send {
         sender,
@@ -127,8 +118,8 @@ fn send(f: Operands<'_>) -> Result<Step, StepFault>
 fn destination(f: Operands<'_>) -> Result<(u8, u64), StepFault>
     ensures { result ≡ destination_of (pieces_of f.entry) }
 {
-    let member = byte(f.member)?;
-    let number = any_number(f.number)?;
+    let member = number_as(f.member)?;
+    let number = number_as(f.number)?;
     empty(f.set)?;
     empty(f.class)?;
     empty(f.first)?;
@@ -136,32 +127,11 @@ fn destination(f: Operands<'_>) -> Result<(u8, u64), StepFault>
     Ok((member, number))
 }
 
-fn hear(f: Operands<'_>) -> Result<Step, StepFault>
-    ensures { result ≡ named_step Hear (pieces_of f.entry) }
-{
-    let (member, number) = destination(f)?;
-    Ok(ask(Call::Hear { member, number }))
-}
-
-fn gather(f: Operands<'_>) -> Result<Step, StepFault>
-    ensures { result ≡ named_step Gather (pieces_of f.entry) }
-{
-    let (member, number) = destination(f)?;
-    Ok(ask(Call::Gather { member, number }))
-}
-
-fn settle(f: Operands<'_>) -> Result<Step, StepFault>
-    ensures { result ≡ named_step Settle (pieces_of f.entry) }
-{
-    let (member, number) = destination(f)?;
-    Ok(ask(Call::Settle { member, number }))
-}
-
 /// R uses member alone.
 fn run(f: Operands<'_>) -> Result<Step, StepFault>
     ensures { result ≡ run_step (pieces_of f.entry) }
 {
-    let member = byte(f.member)?;
+    let member = number_as(f.member)?;
     empty(f.number)?;
     empty(f.set)?;
     empty(f.class)?;
@@ -177,9 +147,9 @@ pub(crate) fn step(letter: Letter, f: Operands<'_>) -> Result<Step, StepFault>
     match letter {
         Letter::O => open(f),
         Letter::S => send(f),
-        Letter::H => hear(f),
-        Letter::G => gather(f),
-        Letter::T => settle(f),
+        Letter::H => destination(f).map(|(member, number)| ask(Call::Hear { member, number })),
+        Letter::G => destination(f).map(|(member, number)| ask(Call::Gather { member, number })),
+        Letter::T => destination(f).map(|(member, number)| ask(Call::Settle { member, number })),
         Letter::R => run(f),
     }
 }

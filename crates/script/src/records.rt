@@ -15,20 +15,19 @@ use record::{Field, cut_record};
 const FIELDS: usize = 7;
 
 /// The step of seven fields.
-fn step_of(fields: &[Field<'_>]) -> Result<Step, StepFault>
-    requires { length fields.now ≡ 7 }
-    ensures { result ≡ step_of (map piece_of fields.now) }
+fn step_of(fields: [Field<'_>; FIELDS]) -> Result<Step, StepFault>
+    ensures { result ≡ step_of (map piece_of fields.entry) }
 {
-    let letter = letter(fields[0])?;
+    let [opening, member, number, set, class, first, second] = fields;
     step(
-        letter,
+        letter(opening)?,
         Operands {
-            member: fields[1],
-            number: fields[2],
-            set: fields[3],
-            class: fields[4],
-            first: fields[5],
-            second: fields[6],
+            member,
+            number,
+            set,
+            class,
+            first,
+            second,
         },
     )
 }
@@ -42,26 +41,22 @@ fn step_at(script: &[u8], start: usize) -> Result<StepRead, StepFault>
         text: script,
         at: start,
     }; FIELDS];
-    match cut_record(script, start, &mut fields) {
-        Err(fault) => Err(StepFault {
-            cause: Cause::BadText,
-            at: fault.at,
-        }),
-        Ok(cut) if cut.fields == FIELDS => {
-            let step = step_of(&fields)?;
-            Ok(StepRead {
-                step,
-                next: cut.next,
-            })
-        }
-        Ok(_) => Err(StepFault {
+    let cut = cut_record(script, start, &mut fields)?;
+    if cut.fields != FIELDS {
+        return Err(StepFault {
             cause: Cause::FieldCount,
             at: start,
-        }),
+        });
     }
+    let step = step_of(fields)?;
+    Ok(StepRead {
+        step,
+        next: cut.next,
+    })
 }
 
 /// Reads the step whose record begins at an offset of the script: the one that the record's fields write.
+#[tactic(auto, using(crate::proofs::Means::means))]
 pub fn read_step(script: &[u8], start: usize) -> Result<StepRead, StepFault>
     ensures answers { result ≡ step_at (drop start script.now) start }
     ensures means { Means (cut_record (drop start script.now) start) result }

@@ -1,6 +1,11 @@
 //! One step of a script: a call, and for an open the kind of the machines.
+ghost use Rattle.std.specs.Prelude.{◌≡◌};
+ghost use Rattle.script.specs.Fields.{fault};
+ghost use Rattle.script.specs.declared.faults.Cause.TheVariants.{BadText};
+
 use crate::faults::Cause;
 use ordering::calls::Call;
+use record::TextFault;
 
 /// The kinds of machine that are made.
 #[derive(Clone, Copy, PartialEq, Eq, Debug)]
@@ -8,6 +13,15 @@ pub enum MachineKind {
     AxisBank,
     Recorder,
     Tally,
+}
+
+/// The kinds of command.
+#[derive(Clone, Copy)]
+pub(crate) enum CommandKind {
+    Set,
+    Shift,
+    Couple,
+    Mark,
 }
 
 /// The letters of the six calls: open, send, hear, gather, settle, run.
@@ -40,4 +54,15 @@ pub struct StepRead {
 pub struct StepFault {
     pub cause: Cause,
     pub at: usize,
+}
+
+impl From<TextFault> for StepFault {
+    ghost from_gives = { λ text step. step ≡ fault BadText text.at };
+
+    fn from(fault: TextFault) -> Self {
+        StepFault {
+            cause: Cause::BadText,
+            at: fault.at,
+        }
+    }
 }
