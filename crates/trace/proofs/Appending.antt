@@ -1,6 +1,6 @@
--- One byte appended, none, and two appends as one.
-use Rattle.std.proofs.Common.{◌≡◌, ℕ, zero, suc, ◌+◌, ◌-◌, ◌<◌, ◌≤◌, min, ◌⊎◌, List, [], ◌∷◌, ◌++◌, length, take, drop, set, sym, refl, ap, ◌∙◌, inl, inr, ⊎_elim, append_assoc, append-nil, add-zero, arith}
-use Rattle.std.proofs.lemmas.List.{drop_all, drop_at, drop-drop, length-append, length-drop, length-take, set_split, take_all, take-append-drop, take_at}
+-- Two appends as one.
+use Rattle.std.proofs.Common.{◌≡◌, ℕ, zero, suc, ◌+◌, ◌-◌, ◌≤◌, min, ◌⊎◌, List, [], ◌∷◌, ◌++◌, length, take, drop, sym, ap, ◌∙◌, inl, inr, ⊎_elim, append_assoc, append-nil, arith}
+use Rattle.std.proofs.lemmas.List.{drop_all, drop_at, drop-drop, length-append, length-drop, length-take, take_all, take_at}
 use Rattle.std.proofs.lemmas.Bool.{cases_lt}
 use Rattle.trace.specs.Appending.{Adds, Appended, fitting}
 use Rattle.trace.specs.declared.Trace.{Trace}
@@ -14,18 +14,6 @@ whole before used new after used' fits a =
 from_fitting : (before : List ℕ) (used : ℕ) (new fit after : List ℕ) (used' : ℕ) → fitting before used new ≡ fit → after ≡ take used before ++ (fit ++ drop (used + length fit) before) → used' ≡ used + length fit → Appended before used new after used'
 from_fitting before used new fit after used' e a c =
     record { bytes = a ∙ ap (λ z. take used before ++ (z ++ drop (used + length z) before)) (sym e); count = c ∙ ap (λ z. used + length z) (sym e) }
-
--- One byte, where there is room.
-pub one : (before : List ℕ) (used b : ℕ) → used < length before → Appended before used (b ∷ []) (set before used b) (used + 1)
-one before used b h =
-    let e : suc used ≡ used + 1 = omega arith in
-    from_fitting before used (b ∷ []) (b ∷ []) _ _ (take_all (length before - used) (b ∷ []) (omega arith)) (set_split before used b h ∙ ap (λ k. take used before ++ (b ∷ drop k before)) e) refl
-
--- Nothing, where there is none.
-pub none : (before : List ℕ) (used : ℕ) (new : List ℕ) → length before ≤ used → Appended before used new before used
-none before used new h =
-    let e : length before - used ≡ 0 = omega arith in
-    from_fitting before used new [] _ _ (ap (λ k. take k new) e) (sym (take-append-drop used before) ∙ ap (λ k. take used before ++ drop k before) (sym (add-zero used))) (sym (add-zero used))
 
 take-append : (n : ℕ) (xs ys : List ℕ) → take n (xs ++ ys) ≡ take n xs ++ take (n - length xs) ys
 take-append zero xs ys = let e : 0 ≡ 0 - length xs = omega arith in ap (λ k. take k ys) e

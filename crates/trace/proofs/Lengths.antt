@@ -1,14 +1,11 @@
 -- 48 bytes are enough for one record.
-use Rattle.std.proofs.Common.{◌≡◌, ℕ, ◌+◌, ◌^◌, ◌<◌, ◌≤◌, List, [], ◌∷◌, ◌++◌, length, Some, None, decimal, Option, refl, arith}
+use Rattle.std.proofs.Common.{◌≡◌, ℕ, ◌+◌, ◌^◌, ◌<◌, ◌≤◌, List, [], ◌∷◌, ◌++◌, length, Some, None, decimal, Option, Result, refl, arith}
 use Rattle.ordering.specs.Refusals.{refusal_number}
 use Rattle.ordering.specs.declared.calls.Answer.{Answer}
-use Rattle.ordering.specs.declared.calls.Answer.TheVariants.{Opened, Issued, Proposed, Fixed, Clock, Ran, Refused}
 use Rattle.ordering.specs.declared.calls.Call.{Call}
 use Rattle.ordering.specs.declared.calls.Refusal.{Refusal}
-use Rattle.ordering.specs.declared.calls.Refusal.TheVariants.{AlreadyOpen, BadMemberCount, BadLastNumber, Closed, NoMember, BadSet, NumbersUsedUp, TableFull, NoCommand, NoDestination, TooEarly, AlreadyDone, NothingReady}
 use Rattle.script.specs.Faults.{row}
 use Rattle.script.specs.declared.faults.Cause.{Cause}
-use Rattle.script.specs.declared.faults.Cause.TheVariants.{ScriptTooLong, BadText, FieldCount, UnknownLetter, BadNumber, NotEmpty, TraceFull}
 use Rattle.script.specs.declared.faults.Fault.{Fault}
 use Rattle.std.proofs.lemmas.Fmt.{length-decimal-le}
 use Rattle.std.proofs.lemmas.List.{length-append}
@@ -26,40 +23,16 @@ length-field width None some h = omega arith
 length-field width (Some n) some h = length-decimal-le width n some (h n refl).0 (h n refl).1
 
 refusal_small : (r : Refusal) → refusal_number r < 100
-refusal_small AlreadyOpen = omega arith
-refusal_small BadMemberCount = omega arith
-refusal_small BadLastNumber = omega arith
-refusal_small Closed = omega arith
-refusal_small NoMember = omega arith
-refusal_small BadSet = omega arith
-refusal_small NumbersUsedUp = omega arith
-refusal_small TableFull = omega arith
-refusal_small NoCommand = omega arith
-refusal_small NoDestination = omega arith
-refusal_small TooEarly = omega arith
-refusal_small AlreadyDone = omega arith
-refusal_small NothingReady = omega arith
+refusal_small r = grind arith
 
-verdict_small : (a : Answer) → verdict a < 100
-verdict_small Opened = omega arith
-verdict_small (Issued number) = omega arith
-verdict_small (Proposed time) = omega arith
-verdict_small (Fixed final) = omega arith
-verdict_small (Clock time) = omega arith
-verdict_small (Ran key) = omega arith
-verdict_small (Refused refusal) = refusal_small refusal
+verdict_small : (a : Result Answer Refusal) → verdict a < 100
+verdict_small a = grind arith
 
 cause_small : (c : Cause) → (row c).1 < 100
-cause_small ScriptTooLong = omega arith
-cause_small BadText = omega arith
-cause_small FieldCount = omega arith
-cause_small UnknownLetter = omega arith
-cause_small BadNumber = omega arith
-cause_small NotEmpty = omega arith
-cause_small TraceFull = omega arith
+cause_small c = grind arith
 
 -- A step with a number of five digits at most, an issue number of sixteen, and a timestamp of 64 bits.
-pub step_record_fits : (number : ℕ) (call : Call) (answer : Answer) → number < 10 ^ 5 → ((k : ℕ) → shown_number call answer ≡ Some k → k < 10 ^ 16) → ((t : ℕ) → shown_time answer ≡ Some t → t < 2 ^ 64) → length (step_record number call answer) ≤ 48
+pub step_record_fits : (number : ℕ) (call : Call) (answer : Result Answer Refusal) → number < 10 ^ 5 → ((k : ℕ) → shown_number call answer ≡ Some k → k < 10 ^ 16) → ((t : ℕ) → shown_time answer ≡ Some t → t < 2 ^ 64) → length (step_record number call answer) ≤ 48
 step_record_fits number call answer n k t =
     let a : length (decimal number) ≤ 5 = length-decimal-le 5 number (omega arith) n (omega arith) in
     let v : verdict answer < 100 = verdict_small answer in

@@ -1,9 +1,10 @@
 -- The records of a trace: four fields joined by commas, and CR LF.
-use Rattle.std.specs.Prelude.{ℕ, List, [], ◌∷◌, ◌++◌, Some, None, decimal, Option}
+use Rattle.std.specs.Prelude.{ℕ, List, [], ◌∷◌, ◌++◌, Some, None, Ok, Err, decimal, Option, Result}
 use Rattle.ordering.specs.Refusals.{refusal_number}
 use Rattle.ordering.specs.declared.calls.Answer.{Answer}
-use Rattle.ordering.specs.declared.calls.Answer.TheVariants.{Opened, Issued, Proposed, Fixed, Clock, Ran, Refused}
+use Rattle.ordering.specs.declared.calls.Answer.TheVariants.{Opened, Issued, Proposed, Fixed, Clock, Ran}
 use Rattle.ordering.specs.declared.calls.Call.{Call}
+use Rattle.ordering.specs.declared.calls.Refusal.{Refusal}
 use Rattle.ordering.specs.declared.calls.Call.TheVariants.{Open, Send, Hear, Gather, Settle, Run}
 use Rattle.script.specs.Faults.{row}
 use Rattle.script.specs.declared.faults.Fault.{Fault}
@@ -18,34 +19,29 @@ named (Settle member number) = Some number
 named (Run member) = None
 
 -- 0 for an accepted call, else the number of the refusal.
-abbrev pub verdict : Answer → ℕ
-verdict Opened = 0
-verdict (Issued number) = 0
-verdict (Proposed time) = 0
-verdict (Fixed final) = 0
-verdict (Clock time) = 0
-verdict (Ran key) = 0
-verdict (Refused refusal) = refusal_number refusal
+abbrev pub verdict : Result Answer Refusal → ℕ
+verdict (Ok answer) = 0
+verdict (Err refusal) = refusal_number refusal
 
 -- The issue number that a step's record shows: the one issued, the one named, or the one that ran.
-abbrev pub shown_number : Call → Answer → Option ℕ
-shown_number call Opened = None
-shown_number call (Issued number) = Some number
-shown_number call (Proposed time) = named call
-shown_number call (Fixed final) = named call
-shown_number call (Clock time) = named call
-shown_number call (Ran key) = Some key.1
-shown_number call (Refused refusal) = None
+abbrev pub shown_number : Call → Result Answer Refusal → Option ℕ
+shown_number call (Ok Opened) = None
+shown_number call (Ok (Issued number)) = Some number
+shown_number call (Ok (Proposed time)) = named call
+shown_number call (Ok (Fixed final)) = named call
+shown_number call (Ok (Clock time)) = named call
+shown_number call (Ok (Ran key)) = Some key.1
+shown_number call (Err refusal) = None
 
 -- The timestamp that a step's record shows: a proposal, a final one, or the clock after a settle.
-abbrev pub shown_time : Answer → Option ℕ
-shown_time Opened = None
-shown_time (Issued number) = None
-shown_time (Proposed time) = Some time
-shown_time (Fixed final) = final
-shown_time (Clock time) = Some time
-shown_time (Ran key) = Some key.0
-shown_time (Refused refusal) = None
+abbrev pub shown_time : Result Answer Refusal → Option ℕ
+shown_time (Ok Opened) = None
+shown_time (Ok (Issued number)) = None
+shown_time (Ok (Proposed time)) = Some time
+shown_time (Ok (Fixed final)) = final
+shown_time (Ok (Clock time)) = Some time
+shown_time (Ok (Ran key)) = Some key.0
+shown_time (Err refusal) = None
 
 -- A number's field: its decimal digits, or nothing.
 abbrev pub field : Option ℕ → List ℕ
@@ -57,7 +53,7 @@ unfoldable pub fields_record : List ℕ → List ℕ → List ℕ → List ℕ �
 fields_record a b c d = a ++ (44 ∷ (b ++ (44 ∷ (c ++ (44 ∷ (d ++ (13 ∷ 10 ∷ [])))))))
 
 -- The record of a step: its number, the verdict, the issue number, the timestamp.
-abbrev pub step_record : ℕ → Call → Answer → List ℕ
+abbrev pub step_record : ℕ → Call → Result Answer Refusal → List ℕ
 step_record number call answer = fields_record (decimal number) (decimal (verdict answer)) (field (shown_number call answer)) (field (shown_time answer))
 
 -- The record of a cell: C (67), the member, the cell's index, the cell.

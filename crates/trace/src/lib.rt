@@ -7,6 +7,7 @@ mod writing;
 pub use records::{FaultRecord, fault_record};
 
 /// Records written into a caller's bytes, one behind the other.
+// The bytes are lent, and an `ArrayVec` would own its own.
 #[derive(Drop)]
 pub struct Trace<'a> {
     pub bytes: &'a mut [u8],

@@ -5,10 +5,11 @@ ghost use Rattle.trace.specs.Appending.{Adds};
 ghost use Rattle.trace.specs.Records.{cell_record, fault_record, named, shown_number, shown_time, step_record, verdict};
 
 use crate::Trace;
-use ordering::calls::{Answer, Call};
+use ordering::calls::{Answer, Call, Refusal};
 use script::faults::Fault;
 
 /// The bytes of the record of a fault, with zeros behind them.
+// The zeros are promised too, and an `ArrayVec` shows nothing behind its elements.
 #[derive(Clone, Copy)]
 pub struct FaultRecord {
     pub bytes: [u8; 48],
@@ -16,23 +17,23 @@ pub struct FaultRecord {
 }
 
 /// 0 for an accepted call, else the number of the refusal.
-fn verdict(answer: Answer) -> u8
+fn verdict(answer: Result<Answer, Refusal>) -> u8
     ensures { result ≡ verdict answer }
 {
     match answer {
-        Answer::Refused(refusal) => refusal.number(),
-        _ => 0,
+        Ok(_) => 0,
+        Err(refusal) => refusal.number(),
     }
 }
 
 /// The issue number that the record of a step shows.
-fn shown_number(call: Call, answer: Answer) -> Option<u64>
+fn shown_number(call: Call, answer: Result<Answer, Refusal>) -> Option<u64>
     ensures { result ≡ shown_number call answer }
 {
     match answer {
-        Answer::Opened | Answer::Refused(_) => None,
-        Answer::Issued(number) | Answer::Ran((_, number)) => Some(number),
-        Answer::Proposed(_) | Answer::Fixed(_) | Answer::Clock(_) => named(call),
+        Ok(Answer::Opened) | Err(_) => None,
+        Ok(Answer::Issued(number) | Answer::Ran((_, number))) => Some(number),
+        Ok(Answer::Proposed(_) | Answer::Fixed(_) | Answer::Clock(_)) => named(call),
     }
 }
 
@@ -48,19 +49,19 @@ fn named(call: Call) -> Option<u64>
 }
 
 /// The timestamp that the record of a step shows.
-fn shown_time(answer: Answer) -> Option<u64>
+fn shown_time(answer: Result<Answer, Refusal>) -> Option<u64>
     ensures { result ≡ shown_time answer }
 {
     match answer {
-        Answer::Opened | Answer::Issued(_) | Answer::Refused(_) => None,
-        Answer::Proposed(time) | Answer::Clock(time) | Answer::Ran((time, _)) => Some(time),
-        Answer::Fixed(time) => time,
+        Ok(Answer::Opened | Answer::Issued(_)) | Err(_) => None,
+        Ok(Answer::Proposed(time) | Answer::Clock(time) | Answer::Ran((time, _))) => Some(time),
+        Ok(Answer::Fixed(time)) => time,
     }
 }
 
 impl<'a> Trace<'a> {
     /// Adds the record of a step, as far as there is room.
-    pub fn step(&mut self, number: usize, call: Call, answer: Answer)
+    pub fn step(&mut self, number: usize, call: Call, answer: Result<Answer, Refusal>)
         ensures { Adds self.old (step_record number call answer) self.new }
     {
         let verdict = u64::from(verdict(answer));

@@ -5,6 +5,7 @@ ghost use Rattle.trace.specs.Appending.{Adds};
 ghost use Rattle.trace.specs.Records.{field, fields_record};
 
 use crate::Trace;
+use itoa::Buffer;
 
 impl<'a> Trace<'a> {
     /// How many bytes are left.
@@ -31,16 +32,20 @@ impl<'a> Trace<'a> {
         }
     }
 
+    /// Adds bytes, as far as there is room.
+    fn all(&mut self, bytes: &[u8])
+        ensures { Adds self.old bytes.now self.new }
+    {
+        for b in bytes {
+            self.byte(*b);
+        }
+    }
+
     /// Adds a number in decimal digits.
     fn decimal(&mut self, n: u64)
         ensures { Adds self.old (decimal n) self.new }
     {
-        if n < 10 {
-            self.byte(b'0' + n as u8);
-        } else {
-            self.decimal(n / 10);
-            self.byte(b'0' + (n % 10) as u8);
-        }
+        self.all(Buffer::new().format(n).as_bytes());
     }
 
     /// Adds a comma and a field behind it: a number, or nothing.
@@ -60,8 +65,8 @@ impl<'a> Trace<'a> {
         self.field(b);
         self.field(c);
         self.field(d);
-        self.byte(13);
-        self.byte(10);
+        self.byte(b'\r');
+        self.byte(b'\n');
     }
 
     /// Adds a record that begins with two numbers.

@@ -9,7 +9,7 @@ mod tests {
     use trace::{Trace, fault_record};
 
     // Whether a step's record is this text, at the start of bytes that hold dots.
-    fn step_is(number: usize, call: Call, answer: Answer, text: &[u8]) -> bool {
+    fn step_is(number: usize, call: Call, answer: Result<Answer, Refusal>, text: &[u8]) -> bool {
         let mut bytes = [b'.'; 48];
         let mut trace = Trace {
             bytes: &mut bytes,
@@ -26,7 +26,7 @@ mod tests {
             members: 3,
             last: 100,
         };
-        assert!(rt; step_is(1, open, Answer::Opened, b"1,0,,\r\n"));
+        assert!(rt; step_is(1, open, Ok(Answer::Opened), b"1,0,,\r\n"));
     }
 
     #[test]
@@ -36,7 +36,7 @@ mod tests {
             set: 6,
             command: Command::Set { axis: 1, value: 5 },
         };
-        assert!(rt; step_is(10, send, Answer::Issued(1), b"10,0,1,\r\n"));
+        assert!(rt; step_is(10, send, Ok(Answer::Issued(1)), b"10,0,1,\r\n"));
     }
 
     #[test]
@@ -45,7 +45,7 @@ mod tests {
             member: 2,
             number: 7,
         };
-        assert!(rt; step_is(305, hear, Answer::Proposed(40), b"305,0,7,40\r\n"));
+        assert!(rt; step_is(305, hear, Ok(Answer::Proposed(40)), b"305,0,7,40\r\n"));
     }
 
     #[test]
@@ -58,7 +58,7 @@ mod tests {
             step_is(
                 99999,
                 gather,
-                Answer::Fixed(None),
+                Ok(Answer::Fixed(None)),
                 b"99999,0,9007199254740993,\r\n",
             )
         );
@@ -66,7 +66,7 @@ mod tests {
             step_is(
                 99999,
                 gather,
-                Answer::Fixed(Some(18446744073709551615)),
+                Ok(Answer::Fixed(Some(18446744073709551615))),
                 b"99999,0,9007199254740993,18446744073709551615\r\n",
             )
         );
@@ -78,31 +78,24 @@ mod tests {
             member: 0,
             number: 12,
         };
-        assert!(rt; step_is(4, settle, Answer::Clock(0), b"4,0,12,0\r\n"));
+        assert!(rt; step_is(4, settle, Ok(Answer::Clock(0)), b"4,0,12,0\r\n"));
     }
 
     #[test]
     fn a_run(rt: HostRuntime) {
         let run = Call::Run { member: 1 };
-        assert!(rt; step_is(5, run, Answer::Ran((61, 3)), b"5,0,3,61\r\n"));
+        assert!(rt; step_is(5, run, Ok(Answer::Ran((61, 3))), b"5,0,3,61\r\n"));
     }
 
     #[test]
     fn refusals(rt: HostRuntime) {
         let run = Call::Run { member: 1 };
-        assert!(rt;
-            step_is(
-                6,
-                run,
-                Answer::Refused(Refusal::NothingReady),
-                b"6,13,,\r\n",
-            )
-        );
+        assert!(rt; step_is(6, run, Err(Refusal::NothingReady), b"6,13,,\r\n",));
         let hear = Call::Hear {
             member: 2,
             number: 7,
         };
-        assert!(rt; step_is(7, hear, Answer::Refused(Refusal::NoCommand), b"7,9,,\r\n"));
+        assert!(rt; step_is(7, hear, Err(Refusal::NoCommand), b"7,9,,\r\n"));
     }
 
     #[test]
