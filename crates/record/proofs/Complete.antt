@@ -24,7 +24,7 @@ closed_at : (p : Piece) (end : FieldEnd) (rest : List ℕ) (at : ℕ) → (end �
 closed_at p Comma rest at h = ap (λ x. ended p Comma x (at + 1)) (take_rest (44 ∷ rest) 1)
 closed_at p (Last CrLf) rest at h = ap (λ x. ended p (Last CrLf) x (at + 2)) (take_rest (13 ∷ 10 ∷ rest) 2)
 closed_at p (Last Script) [] at h = ap (ended p (Last Script) []) (sym (add-zero at))
-closed_at p (Last Script) (c ∷ rest) at h = let e : c ∷ rest ≡ [] = h refl in let z : ◌≡◌ {A = ℕ} 0 1 = cc in absurd (omega arith)
+closed_at p (Last Script) (c ∷ rest) at h = let e : c ∷ rest ≡ [] = h refl in cc
 
 -- Whether bytes begin with a quote.
 abbrev quote_first : List ℕ → Bool
@@ -118,7 +118,7 @@ record_is_cut (last {at} f) end rest h (suc k) l = ap (step (cut_by k)) (field_i
 record_is_cut (comma f r) end rest h zero l = absurd (omega arith)
 record_is_cut (comma {at} {written} {text} {others} {ps} f r) end rest h (suc k) l =
     ap (λ x. step (cut_by k) (cut_field x at)) (append_assoc written (44 ∷ others) t)
-    ∙ ap (step (cut_by k)) (field_is_cut at f Comma (others ++ t) (λ z. let y : ◌≡◌ {A = ℕ} 0 1 = cc in absurd (omega arith)))
+    ∙ ap (step (cut_by k)) (field_is_cut at f Comma (others ++ t) (λ z. cc))
     ∙ ap (behind (piece text at)) (record_is_cut r end rest h k less)
     ∙ ap (cut_to (piece text at ∷ ps) end rest) count
   where
@@ -185,7 +185,7 @@ record_fault_cut (here f) zero l = absurd (omega arith)
 record_fault_cut (here f) (suc n) l = ap (step (cut_by n)) (field_fault_cut f)
 record_fault_cut (later f r) zero l = absurd (omega arith)
 record_fault_cut (later {at} {written} {text} {others} f r) (suc n) l =
-    ap (step (cut_by n)) (field_is_cut at f Comma others (λ z. let y : ◌≡◌ {A = ℕ} 0 1 = cc in absurd (omega arith)))
+    ap (step (cut_by n)) (field_is_cut at f Comma others (λ z. cc))
     ∙ ap (behind (piece text at)) (record_fault_cut r n less)
   where
     less : length others < n

@@ -1,5 +1,5 @@
 -- What is cut stands there: the answers of specs/Cut meet the relations of specs/Rfc4180.
-use Rattle.std.proofs.Common.{◌≡◌, ℕ, zero, suc, ◌+◌, ◌<◌, ◌≤◌, Bool, true, false, cond, ◌&&◌, eqb, List, [], ◌∷◌, ◌++◌, length, get_or, take, drop, Ok, Err, Result, sym, refl, ap, ◌∙◌, subst, append_assoc, add-zero, one-add, arith}
+use Rattle.std.proofs.Common.{◌≡◌, ℕ, zero, suc, ◌+◌, ◌<◌, ◌≤◌, Bool, true, false, cond, ◌&&◌, eqb, List, [], ◌∷◌, ◌++◌, length, get_or, take, drop, Ok, Err, Result, sym, refl, ap, ◌∙◌, subst, true≢false, append_assoc, add-zero, one-add, arith}
 use Rattle.std.specs.List.{prefix_len}
 use Rattle.std.proofs.lemmas.List.{take-append-drop, length-take-le, length-append, length-drop, take_all, nil_from_length}
 use Rattle.std.proofs.lemmas.List.Sums.{prefix_len-le-length}
@@ -33,10 +33,10 @@ ClosedIf p bs at (Err f) = (f.at ≡ at) × (0 < length bs) × EndsNone bs
 closed_good : (p : Piece) (bs : List ℕ) (at : ℕ) → ClosedIf p bs at (closed p bs at)
 closed_good p bs at =
     cond_both (eqb (get_or bs 0 0) 44) (ended p Comma (onwards 1 bs) (at + 1)) _ (ClosedIf p bs at)
-    (λ e. record { same = refl; splits = head_is 44 bs (omega arith) (eqb-true _ 44 e); nothing_left = λ z. let y : ◌≡◌ {A = ℕ} 0 1 = cc in absurd (omega arith); counted = refl })
+    (λ e. record { same = refl; splits = head_is 44 bs (omega arith) (eqb-true _ 44 e); nothing_left = λ z. cc; counted = refl })
     (λ c.
     cond_both (eqb (get_or bs 0 0) 13 && eqb (get_or bs 1 0) 10) (ended p (Last CrLf) (onwards 2 bs) (at + 2)) _ (ClosedIf p bs at)
-    (λ e. let h = and_parts _ _ e in record { same = refl; splits = heads_are 13 10 bs (omega arith) (omega arith) (eqb-true _ 13 h.0) (eqb-true _ 10 h.1); nothing_left = λ z. let y : ◌≡◌ {A = ℕ} 0 1 = cc in absurd (omega arith); counted = refl })
+    (λ e. let h = and_parts _ _ e in record { same = refl; splits = heads_are 13 10 bs (omega arith) (omega arith) (eqb-true _ 13 h.0) (eqb-true _ 10 h.1); nothing_left = λ z. cc; counted = refl })
     (λ l.
     cond_both (eqb (length bs) 0) (ended p (Last Script) [] at) (Err (fault_at at)) (ClosedIf p bs at)
     (λ e. record { same = refl; splits = nil_from_length bs (eqb-true _ 0 e); nothing_left = λ _. refl; counted = sym (add-zero at) })
@@ -77,7 +77,7 @@ quoted_good (b ∷ c ∷ bs) =
 
 -- What stops the text of a field.
 leading_stops : (bs : List ℕ) (b : ℕ) (rest : List ℕ) → drop (prefix_len textdata bs) bs ≡ b ∷ rest → textdata b ≡ false
-leading_stops [] b rest h = let z : ◌≡◌ {A = ℕ} 0 1 = cc in absurd (omega arith)
+leading_stops [] b rest h = cc
 leading_stops (x ∷ xs) b rest h =
     cond_both (textdata x) (1 + prefix_len textdata xs) 0 (λ n. drop n (x ∷ xs) ≡ b ∷ rest → textdata b ≡ false)
     (λ e. subst (λ n. drop n (x ∷ xs) ≡ b ∷ rest → textdata b ≡ false) (sym (one-add (prefix_len textdata xs))) (leading_stops xs b rest))
@@ -102,11 +102,11 @@ stops_two b c n bs h = subst (Stops (b ∷ c ∷ bs)) two h
 
 inside_stops : (bs : List ℕ) → Stops bs (inside bs)
 unfolding inside
-inside_stops [] = (λ tail rest h k. let z : ◌≡◌ {A = ℕ} 0 1 = cc in omega arith, λ _. refl)
+inside_stops [] = (λ tail rest h k. true≢false cc, λ _. refl)
 inside_stops (b ∷ []) =
     cond_both (eqb b 34) 0 1 (Stops (b ∷ []))
-    (λ e. (λ tail rest h k. let z : ◌≡◌ {A = ℕ} 0 1 = cc in omega arith, λ f. apart _ e f))
-    (λ e. (λ tail rest h k. let z : ◌≡◌ {A = ℕ} 0 1 = cc in omega arith, λ _. refl))
+    (λ e. (λ tail rest h k. true≢false cc, λ f. apart _ e f))
+    (λ e. (λ tail rest h k. true≢false cc, λ _. refl))
 inside_stops (b ∷ c ∷ bs) =
     cond_both (eqb b 34) (cond (eqb c 34) (2 + inside bs) 0) (1 + inside (c ∷ bs)) (Stops (b ∷ c ∷ bs))
     (λ d.

@@ -1,5 +1,5 @@
 -- The answers and the records that stand in the text: each fixes the other.
-use Rattle.std.proofs.Common.{◌≡◌, ℕ, suc, List, length, Ok, Err, Result, sym, refl, ap, ◌∙◌, subst, arith}
+use Rattle.std.proofs.Common.{◌≡◌, ℕ, suc, List, length, Ok, Err, Result, sym, refl, ap, ◌∙◌, subst, true≢false, arith}
 use Rattle.record.specs.declared.Cut.{Cut}
 use Rattle.record.specs.declared.RecordEnd.{RecordEnd}
 use Rattle.record.specs.declared.TextFault.{TextFault}
@@ -27,14 +27,14 @@ cut_stands at bs ps (Ok e) s cut h = (ps, e.rest, subst (λ x. Stands at bs ps x
   where
     same : record { fields = length ps; end = e.end; next = e.next } ≡ cut
     same = cc
-cut_stands at bs ps (Err f) s cut h = let z : ◌≡◌ {A = ℕ} 0 1 = cc in absurd (omega arith)
+cut_stands at bs ps (Err f) s cut h = absurd (true≢false cc)
 
 cut_faulty : (at : ℕ) (bs : List ℕ) (ps : List Piece) (o : Result Ended TextFault) → StandsIf at bs ps o → ((qs : List Piece) (end : RecordEnd) (rest : List ℕ) → Stands at bs qs end rest → ⊥) → (f : TextFault) × (answered (length ps) o ≡ Err f)
 cut_faulty at bs ps (Ok e) s h = absurd (h ps e.end e.rest s)
 cut_faulty at bs ps (Err f) s h = (f, refl)
 
 cut_breaks : (at : ℕ) (bs : List ℕ) (ps : List Piece) (o : Result Ended TextFault) → StandsIf at bs ps o → (f : TextFault) → answered (length ps) o ≡ Err f → (qs : List Piece) × RecordFault at bs qs f.at
-cut_breaks at bs ps (Ok e) s f h = let z : ◌≡◌ {A = ℕ} 0 1 = cc in absurd (omega arith)
+cut_breaks at bs ps (Ok e) s f h = absurd (true≢false cc)
 cut_breaks at bs ps (Err g) s f h = (ps, subst (λ (x : TextFault). RecordFault at bs ps x.at) same s)
   where
     same : g ≡ f
@@ -61,4 +61,4 @@ record_answer at bs before after r e h =
     }
   where
     none : (f : TextFault) {c : Cut} → Err f ≡ Ok c → ⊥
-    none f k = let z : ◌≡◌ {A = ℕ} 0 1 = cc in omega arith
+    none f k = true≢false cc

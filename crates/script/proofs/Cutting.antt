@@ -1,5 +1,5 @@
 -- From the fields that were cut to the step that they ask for.
-use Rattle.std.proofs.Common.{◌≡◌, ℕ, cond, eqb, List, [], ◌∷◌, length, Ok, Err, Result, sym, refl, ap, ◌∙◌, arith}
+use Rattle.std.proofs.Common.{◌≡◌, ℕ, cond, eqb, List, [], ◌∷◌, length, Ok, Err, Result, sym, refl, ap, ◌∙◌, true≢false, arith}
 use Rattle.std.proofs.lemmas.Bool.{eq-eqb}
 use Rattle.record.specs.Bytes.{Piece}
 use Rattle.record.specs.Cut.{Cutting, Ended, answer, answered, placed}
@@ -33,7 +33,7 @@ is_cut k cut h = go k.outcome refl h
           count = sym (ap (λ z. z.fields) same);
           within = λ start. ap (step_within start k.pieces) is ∙ ap (λ z. cond (eqb z.fields 7) (and_then (step_of k.pieces) (λ s. Ok (record { step = s; next = z.next }))) (Err (fault FieldCount start))) (sym same);
         }
-    go (Err f) is h = let z : ◌≡◌ {A = ℕ} 0 1 = cc in absurd (omega arith)
+    go (Err f) is h = absurd (true≢false cc)
 
 module _ (k : Cutting) (cut : Cut) (start : ℕ) (h : Ok cut ≡ answer k) where
   module _ (seven : cut.fields ≡ 7) (ps before : List Piece) (places : length before ≡ 7) (holds : ps ≡ placed k.pieces before) where

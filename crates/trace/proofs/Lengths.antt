@@ -1,6 +1,5 @@
 -- 48 bytes are enough for one record.
 use Rattle.std.proofs.Common.{◌≡◌, ℕ, ◌+◌, ◌^◌, ◌<◌, ◌≤◌, List, [], ◌∷◌, ◌++◌, length, Some, None, decimal, Option, Result, refl, arith}
-use Rattle.ordering.specs.Refusals.{refusal_number}
 use Rattle.ordering.specs.declared.calls.Answer.{Answer}
 use Rattle.ordering.specs.declared.calls.Call.{Call}
 use Rattle.ordering.specs.declared.calls.Refusal.{Refusal}
@@ -21,9 +20,6 @@ length_record a b c d =
 length-field : (width : ℕ) (o : Option ℕ) → 0 < width → ((k : ℕ) → o ≡ Some k → (k < 10 ^ width) × (k < 2 ^ 64)) → length (field o) ≤ width
 length-field width None some h = omega arith
 length-field width (Some n) some h = length-decimal-le width n some (h n refl).0 (h n refl).1
-
-refusal_small : (r : Refusal) → refusal_number r < 100
-refusal_small r = grind arith
 
 verdict_small : (a : Result Answer Refusal) → verdict a < 100
 verdict_small a = grind arith
