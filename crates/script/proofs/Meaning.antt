@@ -1,10 +1,12 @@
 -- A record is read as a step exactly where its texts write that step.
-use Rattle.std.proofs.Common.{◌≡◌, ℕ, ◌^◌, ◌<◌, ◌≤◌, Bool, true, false, cond, eqb, leb, List, [], ◌∷◌, length, get_or, Some, None, Ok, Err, decimal, Option, ok_or, option_and_then, sym, refl, ap, ◌∙◌, subst, arith}
-use Rattle.std.proofs.lemmas.Bool.{eqb-true, leb-true}
+use Rattle.std.proofs.Common.{◌≡◌, ℕ, ◌^◌, ◌<◌, ◌≤◌, Bool, true, false, cond, eqb, List, [], ◌∷◌, length, get_or, Some, None, Ok, Err, decimal, Option, ok_or, option_and_then, sym, refl, ap, ◌∙◌, subst, arith}
+use Rattle.std.proofs.lemmas.List.{nil_from_length}
+use Rattle.std.proofs.lemmas.Bool.Decides.{nat_tests}
+use Rattle.std.proofs.lemmas.Bool.{eqb-true}
 use Rattle.machine.specs.declared.command.Command.{Command}
 use Rattle.ordering.specs.declared.calls.Call.{Call}
 use Rattle.ordering.specs.declared.calls.Call.TheVariants.{Open, Send, Hear, Gather, Settle, Run}
-use Rattle.ordering.proofs.Basics.{some_inj, none_some}
+use Rattle.ordering.proofs.Basics.{some_inj}
 use Rattle.record.specs.Bytes.{Piece}
 use Rattle.script.specs.declared.faults.Cause.TheVariants.{BadNumber, NotEmpty, UnknownLetter}
 use Rattle.script.specs.declared.steps.CommandKind.{CommandKind}
@@ -12,7 +14,6 @@ use Rattle.script.specs.declared.steps.CommandKind.TheVariants.{Set as SetKind, 
 use Rattle.script.specs.declared.steps.Letter.{Letter}
 use Rattle.script.specs.declared.steps.Letter.TheVariants.{O, S, H, G, T, R}
 use Rattle.script.specs.declared.steps.MachineKind.{MachineKind}
-use Rattle.script.specs.declared.steps.MachineKind.TheVariants.{AxisBank, Recorder, Tally}
 use Rattle.script.specs.declared.steps.Step.{Step}
 use Rattle.script.specs.Fields.{Read, any_number, at_most, command_kind, empty, fault, kind_of, machine_kind, number_as, up_to}
 use Rattle.script.specs.Numbers.{numeral}
@@ -57,35 +58,21 @@ number_says p =
     has_as (Writes Some p.text) _ (any_number p) (number_as_says Some p) (λ n w. let same : w.number ≡ n = some_inj w.stands in subst (λ k. (p.text ≡ decimal k) × (k < 10 ^ 15)) same (w.digits, w.few))
 
 at_most_is : (most n k : ℕ) → at_most most n ≡ Some k → (n ≡ k) × (k ≤ most)
-at_most_is most n k e = go (leb n most) refl e
-  where
-    go : (t : Bool) → leb n most ≡ t → cond t (Some n) None ≡ Some k → (n ≡ k) × (k ≤ most)
-    go true l h = let same : n ≡ k = some_inj h in (same, subst (λ m. m ≤ most) same (leb-true n most l))
-    go false l h = absurd (none_some h)
+at_most_is most n k e = grind (arith, nat_tests, e)
 
 up_to_says : (most : ℕ) (p : Piece) → Has (λ (n : ℕ). (p.text ≡ decimal n) × (n ≤ most)) (up_to most p)
 up_to_says most p =
     has_as (Writes (at_most most) p.text) _ (up_to most p) (number_as_says (at_most most) p) (λ n w. let is = at_most_is most w.number n w.stands in (w.digits ∙ ap decimal is.0, is.1))
 
-nothing_in : (bs : List ℕ) → length bs ≡ 0 → bs ≡ []
-nothing_in [] e = refl
-nothing_in (b ∷ bs) e = absurd (omega arith)
-
 empty_says : (p : Piece) → Has (λ (u : Unit {0}). p.text ≡ []) (empty p)
 empty_says p = go (eqb (length p.text) 0) refl
   where
     go : (t : Bool) → eqb (length p.text) 0 ≡ t → Has (λ (u : Unit {0}). p.text ≡ []) (cond t (Ok tt) (Err (fault NotEmpty p.at)))
-    go true e = nothing_in p.text (eqb-true (length p.text) 0 e)
+    go true e = nil_from_length p.text (eqb-true (length p.text) 0 e)
     go false e = tt
 
 machine_kind_is : (n : ℕ) (k : MachineKind) → machine_kind n ≡ Some k → n ≡ kind_number k
-machine_kind_is n k = go (eqb n 1) (eqb n 2) (eqb n 3) refl refl refl
-  where
-    go : (a b c : Bool) → eqb n 1 ≡ a → eqb n 2 ≡ b → eqb n 3 ≡ c → cond a (Some AxisBank) (cond b (Some Recorder) (cond c (Some Tally) None)) ≡ Some k → n ≡ kind_number k
-    go true b c x y z h = eqb-true n 1 x ∙ ap kind_number (some_inj h)
-    go false true c x y z h = eqb-true n 2 y ∙ ap kind_number (some_inj h)
-    go false false true x y z h = eqb-true n 3 z ∙ ap kind_number (some_inj h)
-    go false false false x y z h = absurd (none_some h)
+machine_kind_is n k e = grind (arith, nat_tests, e)
 
 kind_says : (p : Piece) → Has (λ (k : MachineKind). p.text ≡ decimal (kind_number k)) (kind_of p)
 kind_says p =
@@ -98,14 +85,7 @@ command_number CoupleKind = 3
 command_number MarkKind = 4
 
 command_kind_is : (n : ℕ) (k : CommandKind) → command_kind n ≡ Some k → n ≡ command_number k
-command_kind_is n k = go (eqb n 1) (eqb n 2) (eqb n 3) (eqb n 4) refl refl refl refl
-  where
-    go : (a b c d : Bool) → eqb n 1 ≡ a → eqb n 2 ≡ b → eqb n 3 ≡ c → eqb n 4 ≡ d → cond a (Some SetKind) (cond b (Some ShiftKind) (cond c (Some CoupleKind) (cond d (Some MarkKind) None))) ≡ Some k → n ≡ command_number k
-    go true b c d x y z w h = eqb-true n 1 x ∙ ap command_number (some_inj h)
-    go false true c d x y z w h = eqb-true n 2 y ∙ ap command_number (some_inj h)
-    go false false true d x y z w h = eqb-true n 3 z ∙ ap command_number (some_inj h)
-    go false false false true x y z w h = eqb-true n 4 w ∙ ap command_number (some_inj h)
-    go false false false false x y z w h = absurd (none_some h)
+command_kind_is n k e = grind (arith, nat_tests, e)
 
 command_kind_says : (p : Piece) → Has (λ (k : CommandKind). p.text ≡ decimal (command_number k)) (number_as command_kind p)
 command_kind_says p =
@@ -121,7 +101,7 @@ letter_byte R = 82
 
 one_byte : (bs : List ℕ) → length bs ≡ 1 → bs ≡ get_or bs 0 0 ∷ []
 one_byte [] e = absurd (omega arith)
-one_byte (b ∷ bs) e = ap (λ xs. b ∷ xs) (nothing_in bs (omega arith))
+one_byte (b ∷ bs) e = ap (λ xs. b ∷ xs) (nil_from_length bs (omega arith))
 
 letter_says : (p : Piece) → Has (λ (l : Letter). p.text ≡ letter_byte l ∷ []) (letter_of p)
 letter_says p = go (eqb (length p.text) 1) refl

@@ -1,9 +1,10 @@
 -- A numeral is what `decimal` writes.
-use Rattle.std.proofs.Common.{◌≡◌, ℕ, ◌^◌, ◌<◌, ◌≤◌, Bool, true, false, cond, not, ◌&&◌, ◌||◌, eqb, ltb, leb, List, length, get_or, Some, None, decimal, sym, refl, ap, ◌∙◌, subst, ⊎_elim, true≢false, arith, rules}
+use Rattle.std.proofs.Common.{◌≡◌, ℕ, ◌^◌, ◌<◌, ◌≤◌, Bool, true, false, cond, ◌&&◌, List, length, get_or, Some, None, decimal, sym, refl, ap, ◌∙◌, subst, ⊎_elim, arith, rules}
 use Rattle.std.specs.Str.{all_ascii_digits}
 use Rattle.std.proofs.lemmas.Fmt.{digits_decimal, digits_value-decimal, length-decimal-le, decimal_nonempty, first_decimal, decimal_digit, decimal-digits_value}
 use Rattle.std.proofs.lemmas.Str.Parse.{IsNumeralModel, numerals_by_fold, tells_all_ascii_digits, digits_value_short}
-use Rattle.std.proofs.lemmas.Bool.{and_parts, and_from, cases_lt, eqb-true, ltb-true, leb-true, lt-ltb, le-leb, eq-eqb}
+use Rattle.std.proofs.lemmas.Bool.Decides.{nat_tests}
+use Rattle.std.proofs.lemmas.Bool.{cases_lt}
 use Rattle.ordering.proofs.Basics.{some_inj, none_some}
 use Rattle.script.specs.Numbers.{read_digits, shaped, numeral, Reads}
 
@@ -15,28 +16,16 @@ pub record Shape (bs : List ℕ) : Type 0 where
   pub few : length bs ≤ 15
   pub leads : get_or bs 0 0 ≡ 48 → length bs ≡ 1
 
-lead : (bs : List ℕ) (t : Bool) → eqb (get_or bs 0 0) 48 ≡ t → (not t || eqb (length bs) 1) ≡ true → get_or bs 0 0 ≡ 48 → length bs ≡ 1
-lead bs true e h z = eqb-true (length bs) 1 h
-lead bs false e h z = absurd (true≢false (sym (eq-eqb (get_or bs 0 0) 48 z) ∙ e))
-
 shape : (bs : List ℕ) → shaped bs ≡ true → Shape bs
 shape bs e =
-    let b = and_parts (ltb 0 (length bs)) (leb (length bs) 15 && (not (eqb (get_or bs 0 0) 48) || eqb (length bs) 1)) e in
-    let d = and_parts (leb (length bs) 15) (not (eqb (get_or bs 0 0) 48) || eqb (length bs) 1) b.1 in
     record {
-      some = ltb-true 0 (length bs) b.0;
-      few = leb-true (length bs) 15 d.0;
-      leads = lead bs (eqb (get_or bs 0 0) 48) refl d.1;
+      some = grind (arith, nat_tests, e);
+      few = grind (arith, nat_tests, e);
+      leads = λ z. grind (arith, nat_tests, e, z);
     }
 
 pub shapes : (bs : List ℕ) → Shape bs → shaped bs ≡ true
-shapes bs s =
-    and_from (ltb 0 (length bs)) (leb (length bs) 15 && (not (eqb (get_or bs 0 0) 48) || eqb (length bs) 1)) (lt-ltb 0 (length bs) s.some)
-    (and_from (leb (length bs) 15) (not (eqb (get_or bs 0 0) 48) || eqb (length bs) 1) (le-leb (length bs) 15 s.few) (go (eqb (get_or bs 0 0) 48) refl))
-  where
-    go : (t : Bool) → eqb (get_or bs 0 0) 48 ≡ t → (not t || eqb (length bs) 1) ≡ true
-    go true e = eq-eqb (length bs) 1 (s.leads (eqb-true (get_or bs 0 0) 48 e))
-    go false e = refl
+shapes bs s = grind (arith, nat_tests, s.some, s.few, s.leads)
 
 -- Bytes of this shape are a number if they are digits.
 well_shaped : (bs : List ℕ) → shaped bs ≡ true → cond (all_ascii_digits bs) (Some (read_digits 0 bs)) None ≡ numeral bs
