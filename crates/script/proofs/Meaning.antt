@@ -1,14 +1,13 @@
 -- A record is read as a step exactly where its texts write that step.
-use Rattle.std.proofs.Common.{◌≡◌, ℕ, ◌^◌, ◌<◌, ◌≤◌, Bool, true, false, cond, eqb, List, [], ◌∷◌, length, get_or, Some, None, Ok, Err, decimal, Option, ok_or, option_and_then, sym, refl, ap, ◌∙◌, subst, arith}
+use Rattle.std.proofs.Common.{◌≡◌, ℕ, ◌^◌, ◌<◌, ◌≤◌, List, [], ◌∷◌, Some, None, Ok, Err, decimal, Option, ok_or, option_and_then, sym, refl, ap, ◌∙◌, subst, arith}
 use Rattle.std.proofs.lemmas.List.{nil_from_length}
 use Rattle.std.proofs.lemmas.Bool.Decides.{nat_tests}
-use Rattle.std.proofs.lemmas.Bool.{eqb-true}
 use Rattle.machine.specs.declared.command.Command.{Command}
 use Rattle.ordering.specs.declared.calls.Call.{Call}
 use Rattle.ordering.specs.declared.calls.Call.TheVariants.{Open, Send, Hear, Gather, Settle, Run}
 use Rattle.ordering.proofs.Basics.{some_inj}
-use Rattle.record.specs.Bytes.{Piece}
-use Rattle.script.specs.declared.faults.Cause.TheVariants.{BadNumber, NotEmpty, UnknownLetter}
+use Rattle.record.specs.Bytes.{Piece, piece}
+use Rattle.script.specs.declared.faults.Cause.TheVariants.{BadNumber}
 use Rattle.script.specs.declared.steps.CommandKind.{CommandKind}
 use Rattle.script.specs.declared.steps.CommandKind.TheVariants.{Set as SetKind, Shift as ShiftKind, Couple as CoupleKind, Mark as MarkKind}
 use Rattle.script.specs.declared.steps.Letter.{Letter}
@@ -29,6 +28,10 @@ Has P (Err e) = Unit {0}
 pub has_then : {A B : Type 0} (P : A → Type 0) (Q : B → Type 0) (r : Read A) (more : A → Read B) → Has P r → ((x : A) → P x → Has Q (more x)) → Has Q (and_then r more)
 has_then P Q (Ok x) more p h = h x p
 has_then P Q (Err e) more p h = tt
+
+has_if : {A : Type 0} (P : A → Type 0) (r : Read A) → ((x : A) → r ≡ Ok x → P x) → Has P r
+has_if P (Ok x) h = h x refl
+has_if P (Err e) h = tt
 
 has_as : {A : Type 0} (P Q : A → Type 0) (r : Read A) → Has P r → ((x : A) → P x → Q x) → Has Q r
 has_as P Q (Ok x) p h = h x p
@@ -65,11 +68,7 @@ up_to_says most p =
     has_as (Writes (at_most most) p.text) _ (up_to most p) (number_as_says (at_most most) p) (λ n w. let is = at_most_is most w.number n w.stands in (w.digits ∙ ap decimal is.0, is.1))
 
 empty_says : (p : Piece) → Has (λ (u : Unit {0}). p.text ≡ []) (empty p)
-empty_says p = go (eqb (length p.text) 0) refl
-  where
-    go : (t : Bool) → eqb (length p.text) 0 ≡ t → Has (λ (u : Unit {0}). p.text ≡ []) (cond t (Ok tt) (Err (fault NotEmpty p.at)))
-    go true e = nil_from_length p.text (eqb-true (length p.text) 0 e)
-    go false e = tt
+empty_says p = has_if _ (empty p) (λ u e. nil_from_length p.text (grind (arith, nat_tests, e)))
 
 machine_kind_is : (n : ℕ) (k : MachineKind) → machine_kind n ≡ Some k → n ≡ kind_number k
 machine_kind_is n k e = grind (arith, nat_tests, e)
@@ -99,28 +98,13 @@ letter_byte G = 71
 letter_byte T = 84
 letter_byte R = 82
 
-one_byte : (bs : List ℕ) → length bs ≡ 1 → bs ≡ get_or bs 0 0 ∷ []
-one_byte [] e = absurd (omega arith)
-one_byte (b ∷ bs) e = ap (λ xs. b ∷ xs) (nil_from_length bs (omega arith))
+letter_is : (bs : List ℕ) (at : ℕ) (l : Letter) → letter_of (piece bs at) ≡ Ok l → bs ≡ letter_byte l ∷ []
+letter_is [] at l e = cc
+letter_is (b ∷ []) at l e = grind (arith, nat_tests, e)
+letter_is (b ∷ c ∷ bs) at l e = grind (arith, nat_tests, e)
 
 letter_says : (p : Piece) → Has (λ (l : Letter). p.text ≡ letter_byte l ∷ []) (letter_of p)
-letter_says p = go (eqb (length p.text) 1) refl
-  where
-    is : (k : ℕ) → length p.text ≡ 1 → eqb (get_or p.text 0 0) k ≡ true → p.text ≡ k ∷ []
-    is k one e = one_byte p.text one ∙ ap (λ x. x ∷ []) (eqb-true (get_or p.text 0 0) k e)
-
-    by : length p.text ≡ 1 → (o s h g t r : Bool) → eqb (get_or p.text 0 0) 79 ≡ o → eqb (get_or p.text 0 0) 83 ≡ s → eqb (get_or p.text 0 0) 72 ≡ h → eqb (get_or p.text 0 0) 71 ≡ g → eqb (get_or p.text 0 0) 84 ≡ t → eqb (get_or p.text 0 0) 82 ≡ r → Has (λ (l : Letter). p.text ≡ letter_byte l ∷ []) (cond o (Ok O) (cond s (Ok S) (cond h (Ok H) (cond g (Ok G) (cond t (Ok T) (cond r (Ok R) (Err (fault UnknownLetter p.at))))))))
-    by one true s h g t r u v w x y z = is 79 one u
-    by one false true h g t r u v w x y z = is 83 one v
-    by one false false true g t r u v w x y z = is 72 one w
-    by one false false false true t r u v w x y z = is 71 one x
-    by one false false false false true r u v w x y z = is 84 one y
-    by one false false false false false true u v w x y z = is 82 one z
-    by one false false false false false false u v w x y z = tt
-
-    go : (q : Bool) → eqb (length p.text) 1 ≡ q → Has (λ (l : Letter). p.text ≡ letter_byte l ∷ []) (cond q (cond (eqb (get_or p.text 0 0) 79) (Ok O) (cond (eqb (get_or p.text 0 0) 83) (Ok S) (cond (eqb (get_or p.text 0 0) 72) (Ok H) (cond (eqb (get_or p.text 0 0) 71) (Ok G) (cond (eqb (get_or p.text 0 0) 84) (Ok T) (cond (eqb (get_or p.text 0 0) 82) (Ok R) (Err (fault UnknownLetter p.at)))))))) (Err (fault UnknownLetter p.at)))
-    go true e = by (eqb-true (length p.text) 1 e) (eqb (get_or p.text 0 0) 79) (eqb (get_or p.text 0 0) 83) (eqb (get_or p.text 0 0) 72) (eqb (get_or p.text 0 0) 71) (eqb (get_or p.text 0 0) 84) (eqb (get_or p.text 0 0) 82) refl refl refl refl refl refl
-    go false e = tt
+letter_says p = has_if _ (letter_of p) (letter_is p.text p.at)
 
 -- The command of a send.
 module _ (f : Pieces) where
