@@ -17,7 +17,7 @@ fault cause at = record { cause = cause; at = at }
 abbrev pub Read : Type 0 → Type 0
 Read A = Result A StepFault
 
--- A number that stands for something.
+-- A number that stands for something; any other text is a bad number.
 abbrev pub number_as : {A : Type 0} → (ℕ → Option A) → Piece → Read A
 number_as of p = ok_or (option_and_then of (numeral p.text)) (fault BadNumber p.at)
 
