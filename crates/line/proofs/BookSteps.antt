@@ -1,23 +1,22 @@
 -- A hear, a gather and a settle on the tables do what the model does.
-use Rattle.std.proofs.Common.{◌≡◌, ℕ, zero, suc, ◌<◌, ◌≤◌, List, [], ◌∷◌, length, get_or, take, Some, None, Ok, Err, Option, sym, refl, ap, ◌∙◌, subst, arith, length-set}
+use Rattle.std.proofs.Common.{◌≡◌, ℕ, ◌<◌, ◌≤◌, length, get_or, Some, None, Ok, Err, Option, sym, refl, ap, ◌∙◌, subst, arith, length-set}
 use Rattle.std.specs.List.{slice_get}
-use Rattle.line.specs.declared.parts.Book.{Book as Tables}
+use Rattle.line.specs.declared.parts.Tables.{Tables}
 use Rattle.line.specs.declared.parts.Member.{Member as Seat}
 use Rattle.open_commands.specs.declared.parts.OpenCommand.{OpenCommand as Place}
 use Rattle.open_commands.specs.declared.phases.Step.TheVariants.{Hear, Gather, Settle}
-use Rattle.line.specs.Books.{live, view_table, view_member, view_book, blank_seat, with_place, with_seat, Fits, SeatFits, Good}
-use Rattle.line.specs.Calls.{Does}
+use Rattle.line.specs.Tables.{view_table, view_member, view_tables, with_place, with_seat, Fits, SeatFits, Good}
+use Rattle.line.proofs.Done.{Done}
 use Rattle.open_commands.specs.Phases.{next_phase}
 use Rattle.line.specs.Places.{Reaches}
 use Rattle.open_commands.specs.Views.{phase_in, view_open, with_phase_in, with_fixed_in}
-use Rattle.line.specs.Views.{proposal_in, lift_in, hear_in, settle_in}
-use Rattle.line.proofs.Reaching.{read_same}
+use Rattle.line.specs.Views.{new_seat, proposal_in, lift_in, hear_in, settle_in}
 use Rattle.line.proofs.SeatSteps.{Shows, Hears, hear_seat, hear_clock, settle_seat}
 use Rattle.line.proofs.SeatViews.{Known}
 use Rattle.line.proofs.TableViews.{book_path, view_phase, view_place, fits_place, view_seat, fits_seat}
 use Rattle.machine.specs.Kinds.{Kind}
 use Rattle.ordering.proofs.Accepted.{reach_ok, hear_ok, gather_ok, settle_ok}
-use Rattle.ordering.proofs.Basics.{none_some, ok_inj, err_ok, absent_none}
+use Rattle.ordering.proofs.Basics.{ok_inj, err_ok, absent_none, some_inj}
 use Rattle.ordering.proofs.SoundSteps.{sound_hear, sound_gather, sound_settle}
 use Rattle.ordering.specs.declared.calls.Phase.{Phase}
 use Rattle.ordering.specs.declared.calls.Phase.TheVariants.{Sent, Heard, Gathered, Settled, Run}
@@ -26,84 +25,62 @@ use Rattle.ordering.specs.Lines.{OpenCommand, Member, Book}
 use Rattle.ordering.specs.Searches.{put}
 use Rattle.ordering.specs.Steps.{Outcome, reach, hear, hear_at, hear_in as hear_by_phase, hearer, gather, gather_at, gather_in, gathered_now, final_of, settle, settle_at, settle_in as settle_by_phase, settler, settled_now, with_command, with_member, with_phase, with_fixed}
 
-err_inj : {A : Type 0} {e f : Refusal} → ◌≡◌ {A = Outcome A} (Err e) (Err f) → e ≡ f
-err_inj h = cc
-
-pub nth-take : {X : Type 0} (xs : List X) (n i : ℕ) (x : X) → slice_get (take n xs) i ≡ Some x → slice_get xs i ≡ Some x
-nth-take xs zero i x h = absurd (none_some h)
-nth-take [] (suc n) i x h = absurd (none_some h)
-nth-take (y ∷ ys) (suc n) zero x h = h
-nth-take (y ∷ ys) (suc n) (suc i) x h = nth-take ys n i x h
-
 -- A call for a member and a number that has reached its place.
 pub record At (b : Tables) (m k i : ℕ) : Type 0 where
   pub p : Place
-  pub live_at : slice_get (live b) i ≡ Some p
+  pub at : slice_get b.commands i ≡ Some p
   pub number : p.number ≡ k
-  pub reached : reach (view_book b) m k ≡ Ok (view_open p)
-  pub used : i < b.used
+  pub reached : reach (view_tables b) m k ≡ Ok (view_open p)
+  pub below : i < length b.commands
   pub member : m < b.members
 
 pub at_of : (b : Tables) (m k i : ℕ) → Reaches b m k (Ok i) → At b m k i
 at_of b m k i r =
-    record { p = r.0; live_at = r.1; number = r.2; reached = r.3; used = r.4; member = r.5 }
+    record { p = r.0; at = r.1; number = r.2; reached = r.3; below = r.4; member = r.5 }
 
 module _ (b : Tables) (g : Good b) (m k i : ℕ) (r : At b m k i) where
-  pub at_place : slice_get b.commands i ≡ Some r.p
-  at_place = nth-take b.commands b.used i r.p r.live_at
-
   -- What was read at the place.
-  pub read : (x : Place) → x ≡ get_or b.commands i x → get_or b.commands i x ≡ r.p
-  read x e = read_same b.commands i x r.p e at_place
+  pub read : (x : Place) → slice_get b.commands i ≡ Some x → x ≡ r.p
+  read x e = some_inj (sym e ∙ r.at)
 
   pub inside : m < 16
   inside = let w : b.members ≤ 16 = g.sound.few in let v : m < b.members = r.member in omega arith
 
   wide : length r.p.destinations ≡ 16
-  wide = g.fits.wide i r.p at_place
+  wide = g.fits.wide i r.p r.at
 
-  pub seat_fits : SeatFits (get_or b.roll m blank_seat)
+  pub seat_fits : SeatFits (get_or b.roll m new_seat)
   seat_fits = g.fits.seated m inside
 
-  pub seat_known : Known b.issued (get_or b.roll m blank_seat)
+  pub seat_known : Known b.issued (get_or b.roll m new_seat)
   seat_known = g.sound.known m
 
   -- One phase moved on at the place: what the model sees of the table, and that the tables fit.
-  moved_view : (x : Phase) (q : Place) → q.number ≡ r.p.number → (j : ℕ) → view_table (live (with_place b i q)) j ≡ put k (Some (view_open q)) (view_table (live b)) j
+  moved_view : (x : Phase) (q : Place) → q.number ≡ r.p.number → (j : ℕ) → view_table ((with_place b i q).commands) j ≡ put k (Some (view_open q)) (view_table b.commands) j
   moved_view x q same j =
-      subst (λ n. view_table (live (with_place b i q)) j ≡ put n (Some (view_open q)) (view_table (live b)) j) r.number (view_place b g.fits i r.p q r.used r.live_at same j)
+      subst (λ n. view_table ((with_place b i q).commands) j ≡ put n (Some (view_open q)) (view_table b.commands) j) r.number (view_place b g.fits i r.p q r.below r.at same j)
 
   pub phase_view : (x : Phase) → view_open (with_phase_in r.p m x) ≡ with_phase (view_open r.p) m x
   phase_view x = view_phase r.p m x (let w : length r.p.destinations ≡ 16 = wide in let v = inside in omega arith)
 
   pub phase_fits : (x : Phase) → Fits (with_place b i (with_phase_in r.p m x))
   phase_fits x =
-      fits_place b g.fits i r.p (with_phase_in r.p m x) r.used r.live_at refl (length-set r.p.destinations m (record { phase = x }) ∙ wide)
+      fits_place b g.fits i r.p (with_phase_in r.p m x) r.below r.at refl (length-set r.p.destinations m (record { phase = x }) ∙ wide)
 
   -- The tables with a phase moved on and a seat changed.
-  pub after_seat : (x : Phase) (s : Seat) (t : Member) → view_member s ≡ t → view_book (with_seat (with_place b i (with_phase_in r.p m x)) m s) ≡ with_member (with_command (view_book b) k (Some (with_phase (view_open r.p) m x))) m t
+  pub after_seat : (x : Phase) (s : Seat) (t : Member) → view_member s ≡ t → view_tables (with_seat (with_place b i (with_phase_in r.p m x)) m s) ≡ with_member (with_command (view_tables b) k (Some (with_phase (view_open r.p) m x))) m t
   after_seat x s t e =
-      book_path (view_book (with_seat (with_place b i (with_phase_in r.p m x)) m s)) (with_member (with_command (view_book b) k (Some (with_phase (view_open r.p) m x))) m t) refl refl refl
-      (λ j. moved_view x (with_phase_in r.p m x) refl j ∙ ap (λ o. put k (Some o) (view_table (live b)) j) (phase_view x))
-      (λ q. view_seat (with_place b i (with_phase_in r.p m x)) (phase_fits x) m s inside q ∙ ap (λ y. put m y (λ j. view_member (get_or b.roll j blank_seat)) q) e)
+      book_path (view_tables (with_seat (with_place b i (with_phase_in r.p m x)) m s)) (with_member (with_command (view_tables b) k (Some (with_phase (view_open r.p) m x))) m t) refl refl refl
+      (λ j. moved_view x (with_phase_in r.p m x) refl j ∙ ap (λ o. put k (Some o) (view_table b.commands) j) (phase_view x))
+      (λ q. view_seat (with_place b i (with_phase_in r.p m x)) (phase_fits x) m s inside q ∙ ap (λ y. put m y (λ j. view_member (get_or b.roll j new_seat)) q) e)
 
   pub fits_both : (x : Phase) (s : Seat) → SeatFits s → Fits (with_seat (with_place b i (with_phase_in r.p m x)) m s)
   fits_both x s ok = fits_seat (with_place b i (with_phase_in r.p m x)) (phase_fits x) m s inside ok
 
   -- Hear
 
-  hear_by : (K : Kind) (p : Phase) → phase_in r.p.destinations m ≡ p → hear K (view_book b) m k ≡ hear_by_phase K (view_book b) m k (view_open r.p) p
-  hear_by K p was = ap (hear_at K (view_book b) m k) r.reached ∙ ap (hear_by_phase K (view_book b) m k (view_open r.p)) was
-
-  pub hear_refused : (K : Kind) (t : ℕ) (e : Refusal) → next_phase (phase_in r.p.destinations m) (Hear t) ≡ Err e → hear K (view_book b) m k ≡ Err e
-  hear_refused K t e h = go (phase_in r.p.destinations m) refl h
-    where
-      go : (p : Phase) → phase_in r.p.destinations m ≡ p → next_phase p (Hear t) ≡ Err e → hear K (view_book b) m k ≡ Err e
-      go Sent w h = absurd (err_ok (sym h))
-      go (Heard u) w h = hear_by K (Heard u) w ∙ ap Err (err_inj h)
-      go (Gathered u) w h = hear_by K (Gathered u) w ∙ ap Err (err_inj h)
-      go Settled w h = hear_by K Settled w ∙ ap Err (err_inj h)
-      go Run w h = hear_by K Run w ∙ ap Err (err_inj h)
+  hear_by : (K : Kind) (p : Phase) → phase_in r.p.destinations m ≡ p → hear K (view_tables b) m k ≡ hear_by_phase K (view_tables b) m k (view_open r.p) p
+  hear_by K p was = ap (hear_at K (view_tables b) m k) r.reached ∙ ap (hear_by_phase K (view_tables b) m k (view_open r.p)) was
 
   hear_sent : (t : ℕ) (x : Phase) → next_phase (phase_in r.p.destinations m) (Hear t) ≡ Ok x → (phase_in r.p.destinations m ≡ Sent) × (Heard t ≡ x)
   hear_sent t x h = go (phase_in r.p.destinations m) refl h
@@ -115,61 +92,51 @@ module _ (b : Tables) (g : Good b) (m k i : ℕ) (r : At b m k i) where
       go Settled w h = absurd (err_ok h)
       go Run w h = absurd (err_ok h)
 
-  -- the command is new to the member's memory while it is still to be heard
-  new_there : (x : Phase) (t : ℕ) → next_phase (phase_in r.p.destinations m) (Hear t) ≡ Ok x → (view_member (get_or b.roll m blank_seat)).remembers k ≡ None
+  -- the command is new to the member's while.remembered it is still to be heard
+  new_there : (x : Phase) (t : ℕ) → next_phase (phase_in r.p.destinations m) (Hear t) ≡ Ok x → (view_member (get_or b.roll m new_seat)).remembers k ≡ None
   new_there x t h =
-      let w = reach_ok (view_book b) m k (view_open r.p) r.reached in
-      absent_none ((view_member (get_or b.roll m blank_seat)).remembers k) (g.sound.unheard m k (view_open r.p) w.there w.to (hear_sent t x h).0)
+      let w = reach_ok (view_tables b) m k (view_open r.p) r.reached in
+      absent_none ((view_member (get_or b.roll m new_seat)).remembers k) (g.sound.unheard m k (view_open r.p) w.there w.to (hear_sent t x h).0)
 
-  hears : (K : Kind) (x : Phase) (t : ℕ) → next_phase (phase_in r.p.destinations m) (Hear t) ≡ Ok x → t ≡ proposal_in K (get_or b.roll m blank_seat) r.p.command → Hears b.issued (get_or b.roll m blank_seat) seat_fits seat_known K k r.p.command t
-  hears K x t h is = hear_seat b.issued (get_or b.roll m blank_seat) seat_fits seat_known K k r.p.command t is (new_there x t h)
+  hears : (K : Kind) (x : Phase) (t : ℕ) → next_phase (phase_in r.p.destinations m) (Hear t) ≡ Ok x → t ≡ proposal_in K (get_or b.roll m new_seat) r.p.command → Hears b.issued (get_or b.roll m new_seat) seat_fits seat_known K k r.p.command t
+  hears K x t h is = hear_seat b.issued (get_or b.roll m new_seat) seat_fits seat_known K k r.p.command t is (new_there x t h)
 
-  pub hear_room : (K : Kind) (x : Phase) (t : ℕ) → next_phase (phase_in r.p.destinations m) (Hear t) ≡ Ok x → t ≡ proposal_in K (get_or b.roll m blank_seat) r.p.command → (lift_in (get_or b.roll m blank_seat) t).kept < 16
+  pub hear_room : (K : Kind) (x : Phase) (t : ℕ) → next_phase (phase_in r.p.destinations m) (Hear t) ≡ Ok x → t ≡ proposal_in K (get_or b.roll m new_seat) r.p.command → length (lift_in (get_or b.roll m new_seat) t).remembered < 16
   hear_room K x t h is = (hears K x t h is).room
 
-  pub hear_done : (K : Kind) (x : Phase) (t : ℕ) → next_phase (phase_in r.p.destinations m) (Hear t) ≡ Ok x → t ≡ proposal_in K (get_or b.roll m blank_seat) r.p.command → Does (hear K (view_book b) m k) b (Ok t) (with_seat (with_place b i (with_phase_in r.p m x)) m (hear_in (get_or b.roll m blank_seat) k r.p.command t))
+  pub hear_done : (K : Kind) (x : Phase) (t : ℕ) → next_phase (phase_in r.p.destinations m) (Hear t) ≡ Ok x → t ≡ proposal_in K (get_or b.roll m new_seat) r.p.command → Done (hear K (view_tables b) m k) t (with_seat (with_place b i (with_phase_in r.p m x)) m (hear_in (get_or b.roll m new_seat) k r.p.command t))
   hear_done K x t h is =
-      (same, record { fits = fits_both x s w.shows.fits; sound = sound_hear K (view_book b) m k (t, view_book after) (hear_ok K (view_book b) m k (t, view_book after) same) g.sound })
+      (same, record { fits = fits_both x s w.shows.fits; sound = sound_hear K (view_tables b) m k (t, view_tables after) (hear_ok K (view_tables b) m k (t, view_tables after) same) g.sound })
     where
       s : Seat
-      s = hear_in (get_or b.roll m blank_seat) k r.p.command t
+      s = hear_in (get_or b.roll m new_seat) k r.p.command t
 
       after : Tables
       after = with_seat (with_place b i (with_phase_in r.p m x)) m s
 
-      w : Hears b.issued (get_or b.roll m blank_seat) seat_fits seat_known K k r.p.command t
+      w : Hears b.issued (get_or b.roll m new_seat) seat_fits seat_known K k r.p.command t
       w = hears K x t h is
 
       q : Member
-      q = hearer K b.issued k r.p.command (view_member (get_or b.roll m blank_seat))
+      q = hearer K b.issued k r.p.command (view_member (get_or b.roll m new_seat))
 
       clock : q.clock ≡ t
-      clock = sym (ap (λ y. y.clock) w.shows.view) ∙ hear_clock b.issued (get_or b.roll m blank_seat) seat_fits seat_known K k r.p.command t is
+      clock = sym (ap (λ y. y.clock) w.shows.view) ∙ hear_clock b.issued (get_or b.roll m new_seat) seat_fits seat_known K k r.p.command t is
 
-      book : with_member (with_command (view_book b) k (Some (with_phase (view_open r.p) m (Heard q.clock)))) m q ≡ view_book after
+      book : with_member (with_command (view_tables b) k (Some (with_phase (view_open r.p) m (Heard q.clock)))) m q ≡ view_tables after
       book =
-          ap (λ u. with_member (with_command (view_book b) k (Some (with_phase (view_open r.p) m (Heard u)))) m q) clock ∙ (ap (λ y. with_member (with_command (view_book b) k (Some (with_phase (view_open r.p) m y))) m q) (hear_sent t x h).1 ∙ sym (after_seat x s q w.shows.view))
+          ap (λ u. with_member (with_command (view_tables b) k (Some (with_phase (view_open r.p) m (Heard u)))) m q) clock ∙ (ap (λ y. with_member (with_command (view_tables b) k (Some (with_phase (view_open r.p) m y))) m q) (hear_sent t x h).1 ∙ sym (after_seat x s q w.shows.view))
 
-      same : hear K (view_book b) m k ≡ Ok (t, view_book after)
-      same = hear_by K Sent (hear_sent t x h).0 ∙ pair q.clock t (with_member (with_command (view_book b) k (Some (with_phase (view_open r.p) m (Heard q.clock)))) m q) (view_book after) clock book
+      same : hear K (view_tables b) m k ≡ Ok (t, view_tables after)
+      same = hear_by K Sent (hear_sent t x h).0 ∙ pair q.clock t (with_member (with_command (view_tables b) k (Some (with_phase (view_open r.p) m (Heard q.clock)))) m q) (view_tables after) clock book
         where
           pair : (u v : ℕ) (c d : Book) → u ≡ v → c ≡ d → ◌≡◌ {A = Outcome (ℕ × Book)} (Ok (u, c)) (Ok (v, d))
           pair u v c d e f = λ i. Ok (e i, f i)
 
   -- Gather
 
-  gather_by : (p : Phase) → phase_in r.p.destinations m ≡ p → gather (view_book b) m k ≡ gather_in (view_book b) m k (view_open r.p) p
-  gather_by p was = ap (gather_at (view_book b) m k) r.reached ∙ ap (gather_in (view_book b) m k (view_open r.p)) was
-
-  pub gather_refused : (e : Refusal) → next_phase (phase_in r.p.destinations m) Gather ≡ Err e → gather (view_book b) m k ≡ Err e
-  gather_refused e h = go (phase_in r.p.destinations m) refl h
-    where
-      go : (p : Phase) → phase_in r.p.destinations m ≡ p → next_phase p Gather ≡ Err e → gather (view_book b) m k ≡ Err e
-      go Sent w h = gather_by Sent w ∙ ap Err (err_inj h)
-      go (Heard u) w h = absurd (err_ok (sym h))
-      go (Gathered u) w h = gather_by (Gathered u) w ∙ ap Err (err_inj h)
-      go Settled w h = gather_by Settled w ∙ ap Err (err_inj h)
-      go Run w h = gather_by Run w ∙ ap Err (err_inj h)
+  gather_by : (p : Phase) → phase_in r.p.destinations m ≡ p → gather (view_tables b) m k ≡ gather_in (view_tables b) m k (view_open r.p) p
+  gather_by p was = ap (gather_at (view_tables b) m k) r.reached ∙ ap (gather_in (view_tables b) m k (view_open r.p)) was
 
   gather_heard : (x : Phase) → next_phase (phase_in r.p.destinations m) Gather ≡ Ok x → (t : ℕ) × (phase_in r.p.destinations m ≡ Heard t) × (Gathered t ≡ x)
   gather_heard x h = go (phase_in r.p.destinations m) refl h
@@ -185,9 +152,9 @@ module _ (b : Tables) (g : Good b) (m k i : ℕ) (r : At b m k i) where
   abbrev pub fixed_at : Phase → Place
   fixed_at x = with_fixed_in (with_phase_in r.p m x) (final_of (view_open (with_phase_in r.p m x)))
 
-  pub gather_done : (x : Phase) → next_phase (phase_in r.p.destinations m) Gather ≡ Ok x → Does (gather (view_book b) m k) b (Ok (final_of (view_open (with_phase_in r.p m x)))) (with_place b i (fixed_at x))
+  pub gather_done : (x : Phase) → next_phase (phase_in r.p.destinations m) Gather ≡ Ok x → Done (gather (view_tables b) m k) ((final_of (view_open (with_phase_in r.p m x)))) (with_place b i (fixed_at x))
   gather_done x h =
-      (same, record { fits = fits_place b g.fits i r.p (fixed_at x) r.used r.live_at refl (length-set r.p.destinations m (record { phase = x }) ∙ wide); sound = sound_gather (view_book b) m k (final_of (view_open (with_phase_in r.p m x)), view_book after) (gather_ok (view_book b) m k (final_of (view_open (with_phase_in r.p m x)), view_book after) same) g.sound })
+      (same, record { fits = fits_place b g.fits i r.p (fixed_at x) r.below r.at refl (length-set r.p.destinations m (record { phase = x }) ∙ wide); sound = sound_gather (view_tables b) m k (final_of (view_open (with_phase_in r.p m x)), view_tables after) (gather_ok (view_tables b) m k (final_of (view_open (with_phase_in r.p m x)), view_tables after) same) g.sound })
     where
       after : Tables
       after = with_place b i (fixed_at x)
@@ -201,34 +168,19 @@ module _ (b : Tables) (g : Good b) (m k i : ℕ) (r : At b m k i) where
       seen : o ≡ view_open (with_phase_in r.p m x)
       seen = ap (with_phase (view_open r.p) m) (gather_heard x h).2 ∙ sym (phase_view x)
 
-      book : with_command (view_book b) k (Some (with_fixed (view_open (with_phase_in r.p m x)) (final_of (view_open (with_phase_in r.p m x))))) ≡ view_book after
+      book : with_command (view_tables b) k (Some (with_fixed (view_open (with_phase_in r.p m x)) (final_of (view_open (with_phase_in r.p m x))))) ≡ view_tables after
       book =
-          sym (book_path (view_book after) (with_command (view_book b) k (Some (with_fixed (view_open (with_phase_in r.p m x)) (final_of (view_open (with_phase_in r.p m x)))))) refl refl refl (λ j. moved_view x (fixed_at x) refl j) (λ q. refl))
+          sym (book_path (view_tables after) (with_command (view_tables b) k (Some (with_fixed (view_open (with_phase_in r.p m x)) (final_of (view_open (with_phase_in r.p m x)))))) refl refl refl (λ j. moved_view x (fixed_at x) refl j) (λ q. refl))
 
-      same : gather (view_book b) m k ≡ Ok (final_of (view_open (with_phase_in r.p m x)), view_book after)
+      same : gather (view_tables b) m k ≡ Ok (final_of (view_open (with_phase_in r.p m x)), view_tables after)
       same =
-          gather_by (Heard t) (gather_heard x h).1 ∙ (ap (λ y. Ok (gathered_now (view_book b) k y)) seen ∙ ap (λ y. Ok (final_of (view_open (with_phase_in r.p m x)), y)) book)
+          gather_by (Heard t) (gather_heard x h).1 ∙ (ap (λ y. Ok (gathered_now (view_tables b) k y)) seen ∙ ap (λ y. Ok (final_of (view_open (with_phase_in r.p m x)), y)) book)
 
   -- Settle
 
-  settle_by : (f : Option ℕ) (p : Phase) → r.p.fixed ≡ f → phase_in r.p.destinations m ≡ p → settle (view_book b) m k ≡ settle_by_phase (view_book b) m k (view_open r.p) f p
+  settle_by : (f : Option ℕ) (p : Phase) → r.p.fixed ≡ f → phase_in r.p.destinations m ≡ p → settle (view_tables b) m k ≡ settle_by_phase (view_tables b) m k (view_open r.p) f p
   settle_by f p is was =
-      ap (settle_at (view_book b) m k) r.reached ∙ (ap (λ y. settle_by_phase (view_book b) m k (view_open r.p) y (phase_in r.p.destinations m)) is ∙ ap (settle_by_phase (view_book b) m k (view_open r.p) f) was)
-
-  pub settle_refused : (e : Refusal) → next_phase (phase_in r.p.destinations m) (Settle r.p.fixed) ≡ Err e → settle (view_book b) m k ≡ Err e
-  settle_refused e h = by_fixed r.p.fixed refl (phase_in r.p.destinations m) refl h
-    where
-      by_fixed : (f : Option ℕ) → r.p.fixed ≡ f → (p : Phase) → phase_in r.p.destinations m ≡ p → next_phase p (Settle f) ≡ Err e → settle (view_book b) m k ≡ Err e
-      by_fixed None v Sent w h = settle_by None Sent v w ∙ ap Err (err_inj h)
-      by_fixed None v (Heard u) w h = settle_by None (Heard u) v w ∙ ap Err (err_inj h)
-      by_fixed None v (Gathered u) w h = settle_by None (Gathered u) v w ∙ ap Err (err_inj h)
-      by_fixed None v Settled w h = settle_by None Settled v w ∙ ap Err (err_inj h)
-      by_fixed None v Run w h = settle_by None Run v w ∙ ap Err (err_inj h)
-      by_fixed (Some f) v Sent w h = settle_by (Some f) Sent v w ∙ ap Err (err_inj h)
-      by_fixed (Some f) v (Heard u) w h = settle_by (Some f) (Heard u) v w ∙ ap Err (err_inj h)
-      by_fixed (Some f) v (Gathered u) w h = absurd (err_ok (sym h))
-      by_fixed (Some f) v Settled w h = settle_by (Some f) Settled v w ∙ ap Err (err_inj h)
-      by_fixed (Some f) v Run w h = settle_by (Some f) Run v w ∙ ap Err (err_inj h)
+      ap (settle_at (view_tables b) m k) r.reached ∙ (ap (λ y. settle_by_phase (view_tables b) m k (view_open r.p) y (phase_in r.p.destinations m)) is ∙ ap (settle_by_phase (view_tables b) m k (view_open r.p) f) was)
 
   pub record Settleable (x : Phase) : Type 0 where
     pub f : ℕ
@@ -252,22 +204,22 @@ module _ (b : Tables) (g : Good b) (m k i : ℕ) (r : At b m k i) where
       by_fixed (Some f) v Settled w h = absurd (err_ok h)
       by_fixed (Some f) v Run w h = absurd (err_ok h)
 
-  pub settle_done : (x : Phase) (f : ℕ) → next_phase (phase_in r.p.destinations m) (Settle r.p.fixed) ≡ Ok x → r.p.fixed ≡ Some f → Does (settle (view_book b) m k) b (Ok (settle_in (get_or b.roll m blank_seat) k r.p.command f).clock) (with_seat (with_place b i (with_phase_in r.p m x)) m (settle_in (get_or b.roll m blank_seat) k r.p.command f))
+  pub settle_done : (x : Phase) (f : ℕ) → next_phase (phase_in r.p.destinations m) (Settle r.p.fixed) ≡ Ok x → r.p.fixed ≡ Some f → Done (settle (view_tables b) m k) ((settle_in (get_or b.roll m new_seat) k r.p.command f).clock) (with_seat (with_place b i (with_phase_in r.p m x)) m (settle_in (get_or b.roll m new_seat) k r.p.command f))
   settle_done x f h final =
-      (same, record { fits = fits_both x s w.fits; sound = sound_settle (view_book b) m k (s.clock, view_book after) (settle_ok (view_book b) m k (s.clock, view_book after) same) g.sound })
+      (same, record { fits = fits_both x s w.fits; sound = sound_settle (view_tables b) m k (s.clock, view_tables after) (settle_ok (view_tables b) m k (s.clock, view_tables after) same) g.sound })
     where
       s : Seat
-      s = settle_in (get_or b.roll m blank_seat) k r.p.command f
+      s = settle_in (get_or b.roll m new_seat) k r.p.command f
 
       after : Tables
       after = with_seat (with_place b i (with_phase_in r.p m x)) m s
 
-      w : Shows s (settler b.issued k r.p.command f (view_member (get_or b.roll m blank_seat)))
-      w = settle_seat b.issued (get_or b.roll m blank_seat) seat_fits seat_known k r.p.command f
+      w : Shows s (settler b.issued k r.p.command f (view_member (get_or b.roll m new_seat)))
+      w = settle_seat b.issued (get_or b.roll m new_seat) seat_fits seat_known k r.p.command f
 
       u : Settleable x
       u = settleable x h
 
-      same : settle (view_book b) m k ≡ Ok (s.clock, view_book after)
+      same : settle (view_tables b) m k ≡ Ok (s.clock, view_tables after)
       same =
-          settle_by (Some f) (Gathered u.t) final u.was ∙ (ap (λ q. Ok (settled_now (view_book b) m k (view_open r.p) q)) (sym w.view) ∙ ap (λ y. Ok (s.clock, y)) (ap (λ y. with_member (with_command (view_book b) k (Some (with_phase (view_open r.p) m y))) m (view_member s)) u.becomes ∙ sym (after_seat x s (view_member s) refl)))
+          settle_by (Some f) (Gathered u.t) final u.was ∙ (ap (λ q. Ok (settled_now (view_tables b) m k (view_open r.p) q)) (sym w.view) ∙ ap (λ y. Ok (s.clock, y)) (ap (λ y. with_member (with_command (view_tables b) k (Some (with_phase (view_open r.p) m y))) m (view_member s)) u.becomes ∙ sym (after_seat x s (view_member s) refl)))

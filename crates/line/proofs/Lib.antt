@@ -1,9 +1,10 @@
 pub mod Asking
 pub mod BookRun
+pub mod Done
+pub mod FixedLists
 pub mod BookSend
 pub mod BookSteps
 pub mod Opening
-pub mod Public
 pub mod Reaching
 pub mod Matching
 pub mod OneProof

@@ -1,11 +1,11 @@
 -- What a line carries in its type has one proof at most, so that a call may take it out again.
-use Rattle.std.proofs.Common.{◌≡◌, ℕ, ◌≤◌, Bool, Some, None, Option}
+use Rattle.std.proofs.Common.{◌≡◌, ℕ, ◌≤◌, Bool}
 use mathlib.Core.HLevel.{Unit-prop}
 use mathlib.Core.Logic.{∥∥₁_elim}
 use denote.Struct.Props.{props}
-use Rattle.line.specs.declared.parts.Book.{Book as Tables}
+use Rattle.line.specs.declared.parts.Tables.{Tables}
 use Rattle.line.specs.declared.parts.Member.{Member as Seat}
-use Rattle.line.specs.Books.{SeatFits, Fits, Good, GoodLine, view_book}
+use Rattle.line.specs.Tables.{SeatFits, Fits, Good, view_tables}
 use Rattle.ordering.specs.declared.calls.Phase.{Phase}
 use Rattle.ordering.specs.declared.calls.Phase.TheVariants.{Sent, Heard, Gathered, Settled, Run}
 use Rattle.ordering.specs.Kept.{Sound, SoundCommand, Proposes, Roomy}
@@ -22,13 +22,12 @@ bool_one a b = hlevel props
 
 seat_one : (p : Seat) → IsProp (SeatFits p)
 seat_one p x y =
-    λ i. record { few = le_one _ _ x.few y.few i; places = nat_one _ _ x.places y.places i; distinct = bool_one _ _ x.distinct y.distinct i }
+    λ i. record { few = le_one _ _ x.few y.few i; distinct = bool_one _ _ x.distinct y.distinct i }
 
 fits_one : (b : Tables) → IsProp (Fits b)
 fits_one b x y =
     λ i. record {
       few = le_one _ _ x.few y.few i;
-      places = nat_one _ _ x.places y.places i;
       seats = nat_one _ _ x.seats y.seats i;
       numbers = le_one _ _ x.numbers y.numbers i;
       lasts = le_one _ _ x.lasts y.lasts i;
@@ -70,12 +69,8 @@ sound_one b x y =
     }
 
 good_one : (b : Tables) → IsProp (Good b)
-good_one b x y = λ i. record { fits = fits_one b x.fits y.fits i; sound = sound_one (view_book b) x.sound y.sound i }
-
-line_one : (o : Option Tables) → IsProp (GoodLine o)
-line_one None = Unit-prop
-line_one (Some b) = good_one b
+good_one b x y = λ i. record { fits = fits_one b x.fits y.fits i; sound = sound_one (view_tables b) x.sound y.sound i }
 
 -- What an open line carries.
-pub carried : (o : Option Tables) (b : Tables) → ∥ GoodLine o ∥₁ → o ≡ Some b → Good b
-carried o b t e = mathlib.Core.Path.subst GoodLine e (∥∥₁_elim t (line_one o) (λ g. g))
+pub carried : (b : Tables) → ∥ Good b ∥₁ → Good b
+carried b t = ∥∥₁_elim t (good_one b) (λ g. g)

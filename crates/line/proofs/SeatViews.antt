@@ -1,12 +1,12 @@
--- A member's clock and memory on fixed places do what the model's do.
-use Rattle.std.proofs.Common.{◌≡◌, ℕ, suc, ◌<◌, ◌≤◌, Bool, true, false, cond, ◌||◌, eqb, leb, List, [], ◌∷◌, ◌++◌, length, Some, None, Option, sym, refl, ap, ◌∙◌, subst, arith, length-set, length-take}
-use Rattle.std.proofs.lemmas.List.{take_more_set}
+-- A member's clock and on.remembered fixed places do what the model's do.
+use Rattle.std.proofs.Common.{◌≡◌, ℕ, suc, ◌<◌, ◌≤◌, Bool, true, false, cond, ◌||◌, eqb, leb, List, [], ◌∷◌, length, Some, None, Option, sym, refl, ap, ◌∙◌, arith}
+use Rattle.std.proofs.lemmas.List.{length-append}
 use Rattle.std.specs.List.{slice_get}
 use Rattle.line.specs.declared.parts.Member.{Member as Seat}
 use Rattle.line.specs.declared.parts.Remembered.{Remembered}
 use Rattle.open_commands.specs.Lists.{lookup_by, mapped, apart}
-use Rattle.line.specs.Books.{held_number, held_command, view_memory, view_member, SeatFits}
-use Rattle.line.specs.Views.{any_clash, any_number, memory, rises_in, remember_in}
+use Rattle.line.specs.Tables.{held_number, held_command, view_memory, view_member, SeatFits}
+use Rattle.line.specs.Views.{any_clash, any_number, rises_in, remember_in}
 use Rattle.open_commands.proofs.Keyed.{lookup_place, lookup_own, lookup_push, apart_push, count_keys}
 use Rattle.open_commands.proofs.Lists.{any_at, some_of}
 use Rattle.line.proofs.TableViews.{member_path, mapped-put}
@@ -36,56 +36,49 @@ abbrev pub Known : ℕ → Seat → Type 0
 Known issued p = (k : ℕ) (c : Command) → (view_member p).remembers k ≡ Some c → k ≤ issued
 
 module _ (issued : ℕ) (p : Seat) (f : SeatFits p) (known : Known issued p) where
-  pub memory_length : length (memory p) ≡ p.kept
-  memory_length =
-      let l = length-take p.kept p.remembered in
-      let few : p.kept ≤ 16 = f.few in
-      let all : length p.remembered ≡ 16 = f.places in
-      omega arith
-
-  held_known : (i : ℕ) (r : Remembered) → slice_get (memory p) i ≡ Some r → held_number r < suc issued
+  held_known : (i : ℕ) (r : Remembered) → slice_get p.remembered i ≡ Some r → held_number r < suc issued
   held_known i r at =
-      let w : held_number r ≤ issued = known (held_number r) (held_command r) (ap (mapped held_command) (lookup_own held_number (memory p) i r f.distinct at)) in
+      let w : held_number r ≤ issued = known (held_number r) (held_command r) (ap (mapped held_command) (lookup_own held_number p.remembered i r f.distinct at)) in
       omega arith
 
-  held_count_lem : held_count issued (view_member p) ≡ p.kept
+  held_count_lem : held_count issued (view_member p) ≡ (length p.remembered)
   held_count_lem =
-      count_same (suc issued) (λ k. present (view_memory (memory p) k)) (λ k. present (lookup_by held_number (memory p) k)) (λ k. mapped-present held_command (lookup_by held_number (memory p) k)) ∙ (count_keys held_number (suc issued) (memory p) f.distinct held_known ∙ memory_length)
+      count_same (suc issued) (λ k. present (view_memory p.remembered k)) (λ k. present (lookup_by held_number p.remembered k)) (λ k. mapped-present held_command (lookup_by held_number p.remembered k)) ∙ count_keys held_number (suc issued) p.remembered f.distinct held_known
 
-  pub full_view : is_full issued (view_member p) ≡ leb 16 p.kept
+  pub full_view : is_full issued (view_member p) ≡ leb 16 (length p.remembered)
   full_view = ap (leb 16) held_count_lem
 
   -- A remembered command conflicts, by the list or by the numbers.
-  clash_view : (K : Kind) (c : Command) → any_below (suc issued) (λ k. clashes K c (view_memory (memory p) k)) ≡ any_clash K c (memory p)
+  clash_view : (K : Kind) (c : Command) → any_below (suc issued) (λ k. clashes K c (view_memory p.remembered k)) ≡ any_clash K c p.remembered
   clash_view K c = same_tests _ _ there back
     where
-      found : (k : ℕ) (o : Option Remembered) → lookup_by held_number (memory p) k ≡ o → clashes K c (mapped held_command o) ≡ true → any_clash K c (memory p) ≡ true
+      found : (k : ℕ) (o : Option Remembered) → lookup_by held_number p.remembered k ≡ o → clashes K c (mapped held_command o) ≡ true → any_clash K c p.remembered ≡ true
       found k None e h = absurd (false_true h)
       found k (Some r) e h =
-          let w = lookup_place held_number (memory p) k r e in
-          any_at (λ x. K.conflict x.command c) (memory p) w.0 r w.1 h
+          let w = lookup_place held_number p.remembered k r e in
+          any_at (λ x. K.conflict x.command c) p.remembered w.0 r w.1 h
 
-      there : any_below (suc issued) (λ k. clashes K c (view_memory (memory p) k)) ≡ true → any_clash K c (memory p) ≡ true
+      there : any_below (suc issued) (λ k. clashes K c (view_memory p.remembered k)) ≡ true → any_clash K c p.remembered ≡ true
       there h =
-          let w = any_found (suc issued) (λ k. clashes K c (view_memory (memory p) k)) h in
-          found w.0 (lookup_by held_number (memory p) w.0) refl w.2
+          let w = any_found (suc issued) (λ k. clashes K c (view_memory p.remembered k)) h in
+          found w.0 (lookup_by held_number p.remembered w.0) refl w.2
 
-      back : any_clash K c (memory p) ≡ true → any_below (suc issued) (λ k. clashes K c (view_memory (memory p) k)) ≡ true
-      back h = go (any_below (suc issued) (λ k. clashes K c (view_memory (memory p) k))) refl
+      back : any_clash K c p.remembered ≡ true → any_below (suc issued) (λ k. clashes K c (view_memory p.remembered k)) ≡ true
+      back h = go (any_below (suc issued) (λ k. clashes K c (view_memory p.remembered k))) refl
         where
-          w : (i : ℕ) × (x : Remembered) × (slice_get (memory p) i ≡ Some x) × (K.conflict x.command c ≡ true)
-          w = some_of (λ x. K.conflict x.command c) (memory p) h
+          w : (i : ℕ) × (x : Remembered) × (slice_get p.remembered i ≡ Some x) × (K.conflict x.command c ≡ true)
+          w = some_of (λ x. K.conflict x.command c) p.remembered h
 
-          go : (t : Bool) → any_below (suc issued) (λ k. clashes K c (view_memory (memory p) k)) ≡ t → t ≡ true
+          go : (t : Bool) → any_below (suc issued) (λ k. clashes K c (view_memory p.remembered k)) ≡ t → t ≡ true
           go true e = refl
           go false e =
-              absurd (false_true (sym (any_none (suc issued) (λ k. clashes K c (view_memory (memory p) k)) e (held_number w.1) (held_known w.0 w.1 w.2)) ∙ (ap (λ o. clashes K c (mapped held_command o)) (lookup_own held_number (memory p) w.0 w.1 f.distinct w.2) ∙ w.3)))
+              absurd (false_true (sym (any_none (suc issued) (λ k. clashes K c (view_memory p.remembered k)) e (held_number w.1) (held_known w.0 w.1 w.2)) ∙ (ap (λ o. clashes K c (mapped held_command o)) (lookup_own held_number p.remembered w.0 w.1 f.distinct w.2) ∙ w.3)))
 
   pub rises_view : (K : Kind) (c : Command) → must_rise K issued c (view_member p) ≡ rises_in K p c
-  rises_view K c = ap (λ t. t || any_below (suc issued) (λ k. clashes K c (view_memory (memory p) k))) full_view ∙ ap (λ t. leb 16 p.kept || t) (clash_view K c)
+  rises_view K c = ap (λ t. t || any_below (suc issued) (λ k. clashes K c (view_memory p.remembered k))) full_view ∙ ap (λ t. leb 16 (length p.remembered) || t) (clash_view K c)
 
-  pub number_view : (k : ℕ) → present ((view_member p).remembers k) ≡ any_number k (memory p)
-  number_view k = mapped-present held_command (lookup_by held_number (memory p) k) ∙ go (memory p)
+  pub number_view : (k : ℕ) → present ((view_member p).remembers k) ≡ any_number k p.remembered
+  number_view k = mapped-present held_command (lookup_by held_number p.remembered k) ∙ go p.remembered
     where
       go : (rs : List Remembered) → present (lookup_by held_number rs k) ≡ any_number k rs
       go [] = refl
@@ -100,18 +93,14 @@ unmapped f None e = refl
 unmapped f (Some r) e = absurd (none_some (sym e))
 
 -- A command put into the memory.
-module _ (p : Seat) (few : p.kept < 16) (places : length p.remembered ≡ 16) (k : ℕ) (c : Command) where
-  memory_more : memory (remember_in p k c) ≡ memory p ++ record { number = k; command = c } ∷ []
-  memory_more = take_more_set p.remembered p.kept (record { number = k; command = c }) (omega arith)
-
+module _ (p : Seat) (few : length p.remembered < 16) (k : ℕ) (c : Command) where
   pub remember_view : (view_member p).remembers k ≡ None → view_member (remember_in p k c) ≡ remember k c (view_member p)
   remember_view new =
-      member_path (view_member (remember_in p k c)) (remember k c (view_member p)) refl (λ j. ap (λ rs. view_memory rs j) memory_more ∙ (ap (mapped held_command) (lookup_push held_number (memory p) (record { number = k; command = c }) (unmapped held_command (lookup_by held_number (memory p) k) new) j) ∙ mapped-put held_command k j (Some (record { number = k; command = c })) (lookup_by held_number (memory p))))
+      member_path (view_member (remember_in p k c)) (remember k c (view_member p)) refl (λ j. ap (mapped held_command) (lookup_push held_number p.remembered (record { number = k; command = c }) (unmapped held_command (lookup_by held_number p.remembered k) new) j) ∙ mapped-put held_command k j (Some (record { number = k; command = c })) (lookup_by held_number p.remembered))
 
-  pub remember_fits : apart held_number (memory p) ≡ true → (view_member p).remembers k ≡ None → SeatFits (remember_in p k c)
+  pub remember_fits : apart held_number p.remembered ≡ true → (view_member p).remembers k ≡ None → SeatFits (remember_in p k c)
   remember_fits distinct new =
       record {
-        few = omega arith;
-        places = length-set p.remembered p.kept (record { number = k; command = c }) ∙ places;
-        distinct = subst (λ rs. apart held_number rs ≡ true) (sym memory_more) (apart_push held_number (memory p) (record { number = k; command = c }) distinct (unmapped held_command (lookup_by held_number (memory p) k) new));
+        few = let w = length-append p.remembered (record { number = k; command = c } ∷ []) in omega arith;
+        distinct = apart_push held_number p.remembered (record { number = k; command = c }) distinct (unmapped held_command (lookup_by held_number p.remembered k) new);
       }

@@ -1,13 +1,13 @@
 -- One place or one seat of the tables changed: what the model sees, and that the tables still fit.
-use Rattle.std.proofs.Common.{◌≡◌, ℕ, zero, suc, ◌<◌, Bool, true, false, cond, eqb, ◌≢◌, ◌⊎◌, List, [], ◌∷◌, length, get_or, set, Some, Option, sym, refl, ap, ◌∙◌, subst, inl, inr, ⊎_elim, arith, length-set, get_or-set_other, get_or-set_same}
-use lib.Seq.{take-set-lt}
+use Rattle.std.proofs.Common.{◌≡◌, ℕ, zero, suc, ◌<◌, ◌≤◌, Bool, true, false, cond, eqb, ◌≢◌, ◌⊎◌, List, [], ◌∷◌, length, get_or, set, Some, Option, sym, refl, ap, ◌∙◌, subst, inl, inr, ⊎_elim, arith, length-set, get_or-set_other, get_or-set_same}
 use Rattle.std.specs.List.{slice_get}
-use Rattle.line.specs.declared.parts.Book.{Book as Tables}
+use Rattle.line.specs.declared.parts.Tables.{Tables}
 use Rattle.line.specs.declared.parts.Member.{Member as Seat}
 use Rattle.open_commands.specs.declared.parts.OpenCommand.{OpenCommand as Place}
-use Rattle.open_commands.specs.Lists.{lookup_by, mapped, apart}
+use Rattle.open_commands.specs.Lists.{lookup_by, mapped}
 use Rattle.open_commands.specs.Views.{number_of, phase_in, unsent, view_open, with_phase_in}
-use Rattle.line.specs.Books.{live, view_table, view_member, blank_seat, with_place, with_seat, Fits, SeatFits}
+use Rattle.line.specs.Tables.{view_table, view_member, with_place, with_seat, Fits, SeatFits}
+use Rattle.line.specs.Views.{new_seat}
 use Rattle.open_commands.proofs.Keyed.{lookup_set, apart_set}
 use Rattle.ordering.proofs.Basics.{some_inj, none_some, put_cases}
 use Rattle.ordering.specs.declared.calls.Phase.{Phase}
@@ -31,6 +31,12 @@ get_d_set xs i j x d l =
   where
     other : (i ≡ j → ⊥) → get_or (set xs i x) j d ≡ get_or xs j d
     other n = let ne : j ≢ i = λ e. n (sym e) in get_or-set_other xs i j x d ne
+
+-- What is read within a list depends on no default.
+pub any_default : {X : Type 0} (xs : List X) (i : ℕ) (d e : X) → i < length xs → get_or xs i d ≡ get_or xs i e
+any_default [] i d e l = absurd (omega arith)
+any_default (x ∷ xs) zero d e l = refl
+any_default (x ∷ xs) (suc i) d e l = any_default xs i d e (omega arith)
 
 pub view_phase : (p : Place) (m : ℕ) (x : Phase) → m < length p.destinations → view_open (with_phase_in p m x) ≡ with_phase (view_open p) m x
 view_phase p m x l =
@@ -68,23 +74,19 @@ set_twice [] i x y = refl
 set_twice (z ∷ zs) zero x y = refl
 set_twice (z ∷ zs) (suc i) x y = ap (λ ys. z ∷ ys) (set_twice zs i x y)
 
-module _ (b : Tables) (f : Fits b) (i : ℕ) (p p' : Place) (l : i < b.used) (at : slice_get (live b) i ≡ Some p) (same : p'.number ≡ p.number) where
-  live_set : live (with_place b i p') ≡ set (live b) i p'
-  live_set = take-set-lt b.used b.commands i p' l
-
-  pub view_place : (k : ℕ) → view_table (live (with_place b i p')) k ≡ put p.number (Some (view_open p')) (view_table (live b)) k
+module _ (b : Tables) (f : Fits b) (i : ℕ) (p p' : Place) (l : i < (length b.commands)) (at : slice_get b.commands i ≡ Some p) (same : p'.number ≡ p.number) where
+  pub view_place : (k : ℕ) → view_table ((with_place b i p').commands) k ≡ put p.number (Some (view_open p')) (view_table b.commands) k
   view_place k =
-      ap (λ ps. view_table ps k) live_set ∙ (ap (mapped view_open) (lookup_set number_of (live b) i p p' f.distinct at same k) ∙ mapped-put view_open p.number k (Some p') (lookup_by number_of (live b)))
+      ap (mapped view_open) (lookup_set number_of b.commands i p p' f.distinct at same k) ∙ mapped-put view_open p.number k (Some p') (lookup_by number_of b.commands)
 
   pub fits_place : length p'.destinations ≡ 16 → Fits (with_place b i p')
   fits_place wide =
       record {
-        few = f.few;
-        places = length-set b.commands i p' ∙ f.places;
+        few = let w = length-set b.commands i p' in let v : length b.commands ≤ 32 = f.few in omega arith;
         seats = f.seats;
         numbers = f.numbers;
         lasts = f.lasts;
-        distinct = subst (λ ps. apart number_of ps ≡ true) (sym live_set) (apart_set number_of (live b) i p p' f.distinct at same);
+        distinct = apart_set number_of b.commands i p p' f.distinct at same;
         wide = λ j q e. ⊎_elim (λ w. subst (λ x. length x.destinations ≡ 16) w wide) (λ w. f.wide j q w) (nth-set b.commands i j p' q e);
         seated = f.seated;
       }
@@ -93,10 +95,10 @@ module _ (b : Tables) (f : Fits b) (m : ℕ) (s : Seat) (l : m < 16) where
   seats : m < length b.roll
   seats = let w : length b.roll ≡ 16 = f.seats in omega arith
 
-  pub view_seat : (q : ℕ) → view_member (get_or (set b.roll m s) q blank_seat) ≡ put m (view_member s) (λ i. view_member (get_or b.roll i blank_seat)) q
-  view_seat q = ap view_member (get_d_set b.roll m q s blank_seat seats) ∙ through (eqb m q)
+  pub view_seat : (q : ℕ) → view_member (get_or (set b.roll m s) q new_seat) ≡ put m (view_member s) (λ i. view_member (get_or b.roll i new_seat)) q
+  view_seat q = ap view_member (get_d_set b.roll m q s new_seat seats) ∙ through (eqb m q)
     where
-      through : (t : Bool) → view_member (cond t s (get_or b.roll q blank_seat)) ≡ cond t (view_member s) (view_member (get_or b.roll q blank_seat))
+      through : (t : Bool) → view_member (cond t s (get_or b.roll q new_seat)) ≡ cond t (view_member s) (view_member (get_or b.roll q new_seat))
       through true = refl
       through false = refl
 
@@ -104,11 +106,10 @@ module _ (b : Tables) (f : Fits b) (m : ℕ) (s : Seat) (l : m < 16) where
   fits_seat ok =
       record {
         few = f.few;
-        places = f.places;
         seats = length-set b.roll m s ∙ f.seats;
         numbers = f.numbers;
         lasts = f.lasts;
         distinct = f.distinct;
         wide = f.wide;
-        seated = λ q k. subst SeatFits (sym (get_d_set b.roll m q s blank_seat seats)) (put_cases m q s (λ i. get_or b.roll i blank_seat) SeatFits (λ e. ok) (λ n. f.seated q k));
+        seated = λ q k. subst SeatFits (sym (get_d_set b.roll m q s new_seat seats)) (put_cases m q s (λ i. get_or b.roll i new_seat) SeatFits (λ e. ok) (λ n. f.seated q k));
       }

@@ -1,89 +1,12 @@
--- A line's tables as the model has them: by issue number, without places.
-use Rattle.std.specs.Prelude.{◌≡◌, ℕ, ◌-◌, ◌^◌, ◌<◌, ◌≤◌, true, List, [], length, take, Some, None, Option, slice_index_or, slice_set}
-use Rattle.std.specs.List.{slice_get}
-use Rattle.line.specs.declared.parts.Book.{Book as Tables}
-use Rattle.line.specs.declared.parts.Member.{Member as Seat}
-use Rattle.open_commands.specs.declared.parts.OpenCommand.{OpenCommand as Place}
-use Rattle.line.specs.declared.parts.Remembered.{Remembered}
-use Rattle.open_commands.specs.Views.{number_of, view_open}
-use Rattle.line.specs.Views.{memory}
-use Rattle.machine.specs.declared.command.Command.{Command}
-use Rattle.ordering.specs.Kept.{Sound}
-use Rattle.ordering.specs.Lines.{OpenCommand, Member, Book, Line, closed, opened}
-use Rattle.open_commands.specs.Lists.{lookup_by, mapped, apart}
+-- A line as the model has it.
+use Rattle.std.specs.Prelude.{Some, None, Option}
+use Rattle.line.specs.declared.book.Book.{Book as Opened}
+use Rattle.line.specs.Tables.{view_tables}
+use Rattle.ordering.specs.Lines.{Book, Line, closed, opened}
 
-abbrev pub held_number : Remembered → ℕ
-held_number r = r.number
+abbrev pub view_book : Opened → Book
+view_book b = view_tables b.tables
 
-abbrev pub held_command : Remembered → Command
-held_command r = r.command
-
--- The places in use.
-abbrev pub live : Tables → List Place
-live b = take b.used b.commands
-
--- Every place with its record, in use or not.
-abbrev pub blank_seat : Seat
-blank_seat = record { clock = 0; kept = 0; remembered = [] }
-
-abbrev pub view_table : List Place → ℕ → Option OpenCommand
-view_table ps k = mapped view_open (lookup_by number_of ps k)
-
-abbrev pub view_memory : List Remembered → ℕ → Option Command
-view_memory rs k = mapped held_command (lookup_by held_number rs k)
-
-abbrev pub view_member : Seat → Member
-view_member p = record { clock = p.clock; remembers = view_memory (memory p) }
-
-abbrev pub view_book : Tables → Book
-view_book b =
-    record {
-      members = b.members;
-      last = b.last;
-      issued = b.issued;
-      table = view_table (live b);
-      member = λ m. view_member (slice_index_or b.roll m blank_seat);
-    }
-
-abbrev pub view_line : Option Tables → Line
+abbrev pub view_line : Option Opened → Line
 view_line None = closed
 view_line (Some b) = opened (view_book b)
-
-abbrev pub with_place : Tables → ℕ → Place → Tables
-with_place b i p =
-    record { members = b.members; last = b.last; issued = b.issued; used = b.used; commands = slice_set b.commands i p; roll = b.roll }
-
-abbrev pub with_seat : Tables → ℕ → Seat → Tables
-with_seat b m p =
-    record { members = b.members; last = b.last; issued = b.issued; used = b.used; commands = b.commands; roll = slice_set b.roll m p }
-
--- The last place in use moved to place i, and one place fewer.
-abbrev pub removed_at : Tables → ℕ → Place → Tables
-removed_at b i p =
-    record { members = b.members; last = b.last; issued = b.issued; used = b.used - 1; commands = slice_set b.commands i p; roll = b.roll }
-
--- A member's memory is within its places, and its numbers are apart.
-pub record SeatFits (p : Seat) : Type 0 where
-  pub few : p.kept ≤ 16
-  pub places : length p.remembered ≡ 16
-  pub distinct : apart held_number (memory p) ≡ true
-
--- The tables are within their places, and the numbers are apart.
-pub record Fits (b : Tables) : Type 0 where
-  pub few : b.used ≤ 32
-  pub places : length b.commands ≡ 32
-  pub seats : length b.roll ≡ 16
-  pub numbers : b.issued ≤ b.last
-  pub lasts : b.last ≤ 2 ^ 48
-  pub distinct : apart number_of (live b) ≡ true
-  pub wide : (i : ℕ) (p : Place) → slice_get b.commands i ≡ Some p → length p.destinations ≡ 16
-  pub seated : (m : ℕ) → m < 16 → SeatFits (slice_index_or b.roll m blank_seat)
-
--- What every open line carries in its type.
-pub record Good (b : Tables) : Type 0 where
-  pub fits : Fits b
-  pub sound : Sound (view_book b)
-
-abbrev pub GoodLine : Option Tables → Type 0
-GoodLine None = Unit {0}
-GoodLine (Some b) = Good b

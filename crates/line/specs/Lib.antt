@@ -4,4 +4,5 @@ pub mod Calls
 pub mod Counts
 pub mod Places
 pub mod Promises
+pub mod Tables
 pub mod Views

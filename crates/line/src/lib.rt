@@ -2,6 +2,8 @@
 #![tactic(auto)]
 
 mod book;
+mod fixed_list;
 mod member;
 mod parts;
 pub mod state;
+mod tables;

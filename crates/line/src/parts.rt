@@ -1,4 +1,5 @@
 //! What a line is made of.
+use crate::fixed_list::FixedList;
 use machine::command::Command;
 use open_commands::parts::{MEMBERS, OpenCommand};
 
@@ -16,19 +17,18 @@ pub(crate) struct Remembered {
     pub(crate) command: Command,
 }
 
-#[derive(Clone, Copy)]
+#[derive(Drop)]
 pub(crate) struct Member {
     pub(crate) clock: u64,
-    pub(crate) kept: usize,
-    pub(crate) remembered: [Remembered; MEMORY],
+    pub(crate) remembered: FixedList<Remembered, MEMORY>,
 }
 
-#[derive(Clone, Copy)]
-pub(crate) struct Book {
+/// The counts of an open line, its open commands and its members.
+#[derive(Drop)]
+pub(crate) struct Tables {
     pub(crate) members: u8,
     pub(crate) last: u64,
     pub(crate) issued: u64,
-    pub(crate) used: usize,
-    pub(crate) commands: [OpenCommand; PLACES],
+    pub(crate) commands: FixedList<OpenCommand, PLACES>,
     pub(crate) roll: [Member; MEMBERS],
 }

@@ -1,7 +1,5 @@
 //! The line and its stations.
-ghost use Rattle.line.specs.Books.{GoodLine};
-
-use crate::parts::Book;
+use crate::book::Book;
 use std::marker::PhantomData;
 
 mod ask;
@@ -13,7 +11,6 @@ mod calls;
 pub struct Line<M> {
     book: Option<Book>,
     kind: PhantomData<M>,
-    ghost good: { ∥ GoodLine book ∥₁ },
 }
 
 /// A member number together with the machine behind it.

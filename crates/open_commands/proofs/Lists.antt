@@ -1,18 +1,26 @@
 -- A test over a list, by its places.
-use Rattle.std.proofs.Common.{◌≡◌, ℕ, zero, suc, ◌<◌, ◌≤◌, Bool, true, false, List, [], ◌∷◌, length, get_or, Some, sym, refl, ap, ◌∙◌, ⊎_elim, arith}
-use Rattle.std.proofs.lemmas.Bool.{or_left, or_right, or_from, or_cases, and_from, and_left, and_right, and_parts}
+use Rattle.std.proofs.Common.{◌≡◌, ℕ, zero, suc, ◌+◌, ◌<◌, ◌≤◌, Bool, true, false, List, [], ◌∷◌, length, Some, sym, refl, ap, ◌∙◌, subst, ⊎_elim, arith}
+use Rattle.std.proofs.lemmas.Bool.{or_left, or_right, or_from, or_cases, and_from, and_left, and_right, and_parts, cases_eq}
 use Rattle.std.specs.List.{slice_get, list_any, list_all}
 use Rattle.ordering.proofs.Basics.{some_inj, none_some, false_true}
 
-pub any_hit : {X : Type 0} (f : X → Bool) (xs : List X) (i : ℕ) (d : X) → i < length xs → f (get_or xs i d) ≡ true → list_any f xs ≡ true
-any_hit f [] i d l h = absurd (omega arith)
-any_hit f (x ∷ xs) zero d l h = or_left (f x) (list_any f xs) h
-any_hit f (x ∷ xs) (suc i) d l h = or_right (f x) (list_any f xs) (any_hit f xs i d (omega arith) h)
+-- No element before place i passes.
+abbrev pub NoneTo : {X : Type 0} → (X → Bool) → List X → ℕ → Type 0
+NoneTo {X} f xs i = (j : ℕ) (x : X) → j < i → slice_get xs j ≡ Some x → f x ≡ false
 
-pub any_miss : {X : Type 0} (f : X → Bool) (xs : List X) (d : X) → ((k : ℕ) → k < length xs → f (get_or xs k d) ≡ false) → list_any f xs ≡ false
-any_miss f [] d h = refl
-any_miss f (x ∷ xs) d h =
-    or_from (f x) (list_any f xs) (h zero (omega arith)) (any_miss f xs d (λ k l. h (suc k) (omega arith)))
+pub none_to_more : {X : Type 0} (f : X → Bool) (xs : List X) (i : ℕ) (y : X) → slice_get xs i ≡ Some y → f y ≡ false → NoneTo f xs i → NoneTo f xs (i + 1)
+none_to_more f xs i y at e h j x l q = ⊎_elim here (λ n. h j x (below n) q) (cases_eq j i)
+  where
+    below : (j ≡ i → ⊥) → j < i
+    below n = omega (arith, n, l)
+
+    here : j ≡ i → f x ≡ false
+    here n = subst (λ z. f z ≡ false) (some_inj (sym at ∙ (ap (slice_get xs) (sym n) ∙ q))) e
+
+pub none_of : {X : Type 0} (f : X → Bool) (xs : List X) (n : ℕ) → length xs ≤ n → NoneTo f xs n → list_any f xs ≡ false
+none_of f [] n l h = refl
+none_of f (x ∷ xs) n l h =
+    or_from (f x) (list_any f xs) (h 0 x (omega arith) refl) (none_of f xs (length xs) (omega arith) (λ j y m. h (suc j) y (omega arith)))
 
 -- Every element before place i passes.
 abbrev pub AllTo : {X : Type 0} → (X → Bool) → List X → ℕ → Type 0

@@ -35,11 +35,6 @@ abbrev pub improves_on : Option Candidate → Pair → Bool
 improves_on None p = true
 improves_on (Some c) p = earlier p c.pair
 
--- The candidate's place is below n.
-abbrev pub PlaceBelow : ℕ → Option Candidate → Type 0
-PlaceBelow n None = Unit {0}
-PlaceBelow n (Some c) = c.place < n
-
 -- Of the commands below place n, the candidate is the earliest ready one.
 abbrev pub BestTo : Kind → ℕ → List Place → ℕ → Option Candidate → Type 0
 BestTo K m ps n None = (j : ℕ) (q : Place) → j < n → slice_get ps j ≡ Some q → ready_place K m ps q ≡ None

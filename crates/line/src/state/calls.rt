@@ -10,7 +10,7 @@ ghost use Rattle.ordering.specs.Lines.{closed};
 ghost use Rattle.ordering.specs.Worlds.{after, step};
 
 use super::{Line, Station};
-use crate::parts::Book;
+use crate::book::Book;
 use machine::command::Command;
 use machine::kind::Machine;
 use ordering::calls::Refusal;
@@ -33,7 +33,7 @@ impl<M: Machine> Line<M> {
         ensures { result ≡ member_count (view_line self.now.book) }
     {
         match &self.book {
-            Some(book) => book.members,
+            Some(book) => book.tables.members,
             None => 0,
         }
     }

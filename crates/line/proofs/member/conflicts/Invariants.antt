@@ -1,6 +1,5 @@
-use Rattle.std.proofs.Common.{◌≡◌, ℕ, ◌<◌, false, get_or}
-use Rattle.line.specs.Views.{blank_remembered}
+use Rattle.open_commands.proofs.Lists.{NoneTo}
 use Rattle.line.proofs.member.conflicts.Given as goal
 
 abbrev pub invariant-loop-held : goal.invariant-loop-held
-invariant-loop-held g l = (k : ℕ) → k < l.held-index → g.M.Machine.kind.conflict (get_or l.remembered k blank_remembered).command l.command ≡ false
+invariant-loop-held g l = NoneTo (λ r. g.M.Machine.kind.conflict r.command l.command) l.remembered l.held-index
