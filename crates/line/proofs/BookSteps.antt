@@ -1,5 +1,5 @@
 -- A hear, a gather and a settle on the tables do what the model does.
-use Rattle.std.proofs.Common.{◌≡◌, ℕ, ◌<◌, ◌≤◌, length, get_or, Some, None, Ok, Err, Option, sym, refl, ap, ◌∙◌, subst, arith, length-set}
+use Rattle.std.proofs.Common.{◌≡◌, ℕ, ◌<◌, ◌≤◌, length, get_or, Some, None, Ok, Option, sym, refl, ap, ◌∙◌, subst, arith, length-set}
 use Rattle.std.specs.List.{slice_get}
 use Rattle.line.specs.declared.parts.Tables.{Tables}
 use Rattle.line.specs.declared.parts.Member.{Member as Seat}
@@ -20,7 +20,6 @@ use Rattle.ordering.proofs.Basics.{ok_inj, err_ok, absent_none, some_inj}
 use Rattle.ordering.proofs.SoundSteps.{sound_hear, sound_gather, sound_settle}
 use Rattle.ordering.specs.declared.calls.Phase.{Phase}
 use Rattle.ordering.specs.declared.calls.Phase.TheVariants.{Sent, Heard, Gathered, Settled, Run}
-use Rattle.ordering.specs.declared.calls.Refusal.{Refusal}
 use Rattle.ordering.specs.Lines.{OpenCommand, Member, Book}
 use Rattle.ordering.specs.Searches.{put}
 use Rattle.ordering.specs.Steps.{Outcome, reach, hear, hear_at, hear_in as hear_by_phase, hearer, gather, gather_at, gather_in, gathered_now, final_of, settle, settle_at, settle_in as settle_by_phase, settler, settled_now, with_command, with_member, with_phase, with_fixed}

@@ -7,7 +7,7 @@ use Rattle.open_commands.specs.declared.table.Candidate.{Candidate}
 use Rattle.open_commands.specs.Lists.{lookup_by, mapped}
 use Rattle.open_commands.specs.Views.{number_of, view_open}
 use Rattle.line.specs.Tables.{view_tables, Good}
-use Rattle.open_commands.specs.Places.{all_pass, ready_in, ready_place, BestTo, PlaceBelow}
+use Rattle.open_commands.specs.Places.{all_pass, ready_in, ready_place, BestTo}
 use Rattle.open_commands.proofs.Keyed.{lookup_place, lookup_own}
 use Rattle.open_commands.proofs.Lists.{all_of_lem, each_of}
 use Rattle.line.proofs.SeatViews.{same_tests}
