@@ -7,23 +7,24 @@ use Rattle.ordering.specs.Answering.{answer_of}
 use Rattle.ordering.specs.declared.calls.Answer.{Answer}
 use Rattle.ordering.specs.declared.calls.Call.{Call}
 use Rattle.ordering.specs.Lines.{Line}
+use Rattle.ordering.specs.Steps.{Outcome}
 use Rattle.ordering.specs.Worlds.{after, step, moved}
 use Rattle.stations.specs.Held.{AskedAll}
 use Rattle.stations.proofs.Together.{moved_alike}
 use Rattle.stations.specs.Played.{played, answers_to, Played}
 
 -- Some calls are made: where they lead, and what is written.
-pub record SoFar (K : Kind) (cs : List Call) (before now : List Answer) (l : Line) (held : ℕ → List ℕ) : Type 0 where
+pub record SoFar (K : Kind) (cs : List Call) (before now : List (Outcome Answer)) (l : Line) (held : ℕ → List ℕ) : Type 0 where
   pub line : (played K cs).line ≡ l
   pub cells : (m : ℕ) → m < 16 → (played K cs).cells m ≡ held m
   pub count : length (answers_to K cs) ≡ length cs
   pub answers : now ≡ take (length before) (answers_to K cs) ++ drop (length cs) before
 
-pub none_made : (K : Kind) (before : List Answer) (l : Line) (held : ℕ → List ℕ) → (after K []).line ≡ l → ((m : ℕ) → m < 16 → held m ≡ K.starting) → SoFar K [] before before l held
+pub none_made : (K : Kind) (before : List (Outcome Answer)) (l : Line) (held : ℕ → List ℕ) → (after K []).line ≡ l → ((m : ℕ) → m < 16 → held m ≡ K.starting) → SoFar K [] before before l held
 none_made K before l held is fresh =
     record { line = is; cells = λ m near. sym (fresh m near); count = refl; answers = nothing (length before) before }
   where
-    nothing : (n : ℕ) (xs : List Answer) → xs ≡ take n [] ++ drop 0 xs
+    nothing : (n : ℕ) (xs : List (Outcome Answer)) → xs ≡ take n [] ++ drop 0 xs
     nothing zero xs = refl
     nothing (suc n) xs = refl
 
@@ -32,7 +33,7 @@ set_behind [] y z zs = refl
 set_behind (x ∷ xs) y z zs = ap (λ ws. x ∷ ws) (set_behind xs y z zs)
 
 -- One answer more, where there is room and where there is none.
-written : (before done : List Answer) (a : Answer) → length done < length before → set (take (length before) done ++ drop (length done) before) (length done) a ≡ take (length before) (done ++ a ∷ []) ++ drop (length done + 1) before
+written : (before done : List (Outcome Answer)) (a : Outcome Answer) → length done < length before → set (take (length before) done ++ drop (length done) before) (length done) a ≡ take (length before) (done ++ a ∷ []) ++ drop (length done + 1) before
 written before done a l =
     ap (λ xs. set (xs ++ drop (length done) before) (length done) a) (take_all (length before) done (omega arith))
     ∙ (ap (λ xs. set (done ++ xs) (length done) a) (drop-cons before (length done) a l)
@@ -41,11 +42,11 @@ written before done a l =
     ∙ (ap (λ n. (done ++ a ∷ []) ++ drop n before) (sym (add-one (length done)))
     ∙ ap (λ xs. xs ++ drop (length done + 1) before) (sym (take_all (length before) (done ++ a ∷ []) (let w = length-append done (a ∷ []) in omega arith)))))))
 
-full : (before done : List Answer) (a : Answer) → length before ≤ length done → take (length before) done ++ drop (length done) before ≡ take (length before) (done ++ a ∷ []) ++ drop (length done + 1) before
+full : (before done : List (Outcome Answer)) (a : Outcome Answer) → length before ≤ length done → take (length before) done ++ drop (length done) before ≡ take (length before) (done ++ a ∷ []) ++ drop (length done + 1) before
 full before done a l =
     ap (λ xs. take (length before) done ++ xs) (drop_all (length done) before l ∙ sym (drop_all (length done + 1) before (omega arith))) ∙ ap (λ xs. xs ++ drop (length done + 1) before) (sym (take-append-le (length before) done (a ∷ []) l))
 
-module _ (K : Kind) (cs : List Call) (c : Call) (before now : List Answer) (l : Line) (held : ℕ → List ℕ) (r : Answer) (l' : Line) (held' : ℕ → List ℕ) (s : SoFar K cs before now l held) (a : AskedAll K l c held r l' held') where
+module _ (K : Kind) (cs : List Call) (c : Call) (before now : List (Outcome Answer)) (l : Line) (held : ℕ → List ℕ) (r : Outcome Answer) (l' : Line) (held' : ℕ → List ℕ) (s : SoFar K cs before now l held) (a : AskedAll K l c held r l' held') where
   turned_round : reverse (cs ++ c ∷ []) ≡ c ∷ reverse cs
   turned_round = reverse-append cs (c ∷ [])
 
@@ -76,7 +77,7 @@ module _ (K : Kind) (cs : List Call) (c : Call) (before now : List Answer) (l : 
   now_done : now ≡ take (length before) (answers_to K cs) ++ drop (length (answers_to K cs)) before
   now_done = s.answers ∙ ap (λ n. take (length before) (answers_to K cs) ++ drop n before) (sym s.count)
 
-  new_written : (now' : List Answer) → now' ≡ take (length before) (answers_to K cs ++ r ∷ []) ++ drop (length (answers_to K cs) + 1) before → SoFar K (cs ++ c ∷ []) before now' l' held'
+  new_written : (now' : List (Outcome Answer)) → now' ≡ take (length before) (answers_to K cs ++ r ∷ []) ++ drop (length (answers_to K cs) + 1) before → SoFar K (cs ++ c ∷ []) before now' l' held'
   new_written now' e =
       record {
         line = new_line;
@@ -96,6 +97,6 @@ module _ (K : Kind) (cs : List Call) (c : Call) (before now : List Answer) (l : 
   no_room i is full-up = new_written now (now_done ∙ full before (answers_to K cs) r (subst (λ n. length before ≤ n) (is ∙ sym s.count) full-up))
 
 -- All calls are made.
-pub all_made : (K : Kind) → Laws K → (cs : List Call) (before now : List Answer) (l : Line) (held : ℕ → List ℕ) → SoFar K cs before now l held → Played K cs before now l held
+pub all_made : (K : Kind) → Laws K → (cs : List Call) (before now : List (Outcome Answer)) (l : Line) (held : ℕ → List ℕ) → SoFar K cs before now l held → Played K cs before now l held
 all_made K L cs before now l held s =
     record { ordered = ordered_always K L (reverse cs); line = s.line; cells = s.cells; answers = s.answers }

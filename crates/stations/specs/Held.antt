@@ -7,10 +7,11 @@ use Rattle.ordering.specs.declared.calls.Call.{Call}
 use Rattle.ordering.specs.declared.calls.Call.TheVariants.{Open, Send, Hear, Gather, Settle, Run}
 use Rattle.ordering.specs.Limits.{member_limit}
 use Rattle.ordering.specs.Lines.{Line}
+use Rattle.ordering.specs.Steps.{Outcome}
 use Rattle.ordering.specs.Worlds.{moved, step}
 
 -- The call answers r, leaves the line as the step has it, and moves the station that the step moves and no other.
-pub record AskedAll (K : Kind) (l : Line) (c : Call) (held : ℕ → List ℕ) (r : Answer) (l' : Line) (held' : ℕ → List ℕ) : Type 0 where
+pub record AskedAll (K : Kind) (l : Line) (c : Call) (held : ℕ → List ℕ) (r : Outcome Answer) (l' : Line) (held' : ℕ → List ℕ) : Type 0 where
   pub answer : answer_of (step K l c).event ≡ r
   pub line : (step K l c).line ≡ l'
   pub cells : (m : ℕ) → m < member_limit → moved K (step K l c).move held m ≡ held' m

@@ -1,3 +1,3 @@
 pub mod Held
-pub mod Made
 pub mod Played
+pub mod Together

@@ -7,6 +7,7 @@ use Rattle.ordering.specs.declared.calls.Call.{Call}
 use Rattle.ordering.specs.Limits.{member_limit}
 use Rattle.ordering.specs.Lines.{Line}
 use Rattle.ordering.specs.Ordering.{Ordered}
+use Rattle.ordering.specs.Steps.{Outcome}
 use Rattle.ordering.specs.Worlds.{World, after}
 
 -- Where the calls, the first call first, lead a new line and fresh stations.
@@ -14,12 +15,12 @@ abbrev pub played : Kind → List Call → World
 played K cs = after K (reverse cs)
 
 -- The answers to the calls, the first first.
-abbrev pub answers_to : Kind → List Call → List Answer
+abbrev pub answers_to : Kind → List Call → List (Outcome Answer)
 answers_to K cs = map answer_of (reverse (played K cs).history)
 
 -- The ordering theorem holds of the calls and their answers; the line and the stations are where the calls lead; and
 -- the first places of the answers hold the answers to the first calls, as many as there is room for.
-pub record Played (K : Kind) (cs : List Call) (before now : List Answer) (l : Line) (held : ℕ → List ℕ) : Type 0 where
+pub record Played (K : Kind) (cs : List Call) (before now : List (Outcome Answer)) (l : Line) (held : ℕ → List ℕ) : Type 0 where
   pub ordered : Ordered K (played K cs)
   pub line : (played K cs).line ≡ l
   pub cells : (m : ℕ) → m < member_limit → (played K cs).cells m ≡ held m

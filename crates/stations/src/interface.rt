@@ -2,11 +2,11 @@
 ghost use Rattle.std.specs.Prelude.{◌≡◌, ℕ, ◌<◌, List, if◌then◌else◌, None, nat_lt};
 ghost use Rattle.std.specs.List.{slice_get};
 ghost use Rattle.line.specs.Books.{view_line};
-ghost use Rattle.stations.specs.Held.{AskedAll, member_of};
+ghost use Rattle.stations.specs.Held.{AskedAll};
 
 use line::state::Line;
 use machine::kind::Machine;
-use ordering::calls::{Answer, Call};
+use ordering::calls::{Answer, Call, Refusal};
 
 /// One station for each member that a line can have, all with machines of one kind.
 pub trait Stations: Sized {
@@ -25,16 +25,6 @@ pub trait Stations: Sized {
         ensures { result ≡ (if nat_lt member 16 then slice_get (held self.now member) i else None) };
 
     /// Makes the call on the line; a run is for the station of the member that it names.
-    fn ask(&mut self, line: &mut Line<Self::Kind>, call: Call) -> Answer
+    fn ask(&mut self, line: &mut Line<Self::Kind>, call: Call) -> Result<Answer, Refusal>
         ensures { AskedAll Self.Kind.kind (view_line line.old.book) call (held self.old) result (view_line line.new.book) (held self.new) };
-}
-
-/// The member that a run names; every other call leaves the stations, and any will do.
-pub(crate) fn member_of(call: Call) -> u8
-    ensures { result ≡ member_of call }
-{
-    match call {
-        Call::Run { member } => member,
-        _ => 0,
-    }
 }

@@ -1,65 +1,37 @@
 //! Sixteen stations with machines of the kind Tally.
-ghost use Rattle.std.specs.Prelude.{◌≡◌, ℕ, ◌<◌, [], ◌∷◌, slice_index_or};
-ghost use Rattle.stations.specs.Made.{blank_tally};
+ghost use Rattle.stations.specs.Together.{OneEach, held_by};
 
-use crate::interface::{Stations, member_of};
+use crate::any_kind::{ask_at, fresh_stations, read_at};
+use crate::interface::Stations;
 use line::state::{Line, Station};
 use machine::kind::Machine;
 use machine::tally::Tally;
-use ordering::calls::{Answer, Call};
+use open_commands::parts::MEMBERS;
+use ordering::calls::{Answer, Call, Refusal};
 
 /// One station for each member that a line can have, in the order of the members.
 #[derive(Drop)]
 pub struct TallyStations {
-    at: [Station<Tally>; 16],
-    ghost owned: { ((q : ℕ) → q < 16 → (slice_index_or at q blank_tally).member ≡ q) },
+    at: [Station<Tally>; MEMBERS],
+    ghost each: { OneEach at },
 }
 
 impl Stations for TallyStations {
     type Kind = Tally;
 
-    ghost held = { λ s m. (slice_index_or s.at m blank_tally).machine.sets ∷ (slice_index_or s.at m blank_tally).machine.shifts ∷ (slice_index_or s.at m blank_tally).machine.couples ∷ (slice_index_or s.at m blank_tally).machine.marks ∷ [] };
+    ghost held = { λ s. held_by ⟦<Tally as Machine>⟧.cells s.at };
 
     fn fresh() -> Self {
         TallyStations {
-            at: [
-                Station::new(0),
-                Station::new(1),
-                Station::new(2),
-                Station::new(3),
-                Station::new(4),
-                Station::new(5),
-                Station::new(6),
-                Station::new(7),
-                Station::new(8),
-                Station::new(9),
-                Station::new(10),
-                Station::new(11),
-                Station::new(12),
-                Station::new(13),
-                Station::new(14),
-                Station::new(15),
-            ],
+            at: fresh_stations(),
         }
     }
 
     fn read(&self, member: u8, i: usize) -> Option<u32> {
-        let place = usize::from(member);
-        if place < 16 {
-            self.at[place].read(i)
-        } else {
-            None
-        }
+        read_at(&self.at, member, i)
     }
 
-    fn ask(&mut self, line: &mut Line<Tally>, call: Call) -> Answer {
-        let member = member_of(call);
-        let place = usize::from(member);
-        if place < 16 {
-            line.ask(call, &mut self.at[place])
-        } else {
-            let mut spare = Station::new(member);
-            line.ask(call, &mut spare)
-        }
+    fn ask(&mut self, line: &mut Line<Tally>, call: Call) -> Result<Answer, Refusal> {
+        ask_at(&mut self.at, line, call)
     }
 }

@@ -2,13 +2,9 @@ use Rattle.std.proofs.Common.{◌≡◌, ◌<◌, ◌≤◌, [], ◌∷◌, ◌+
 use Rattle.std.proofs.lemmas.List.{take_more, take_all, length-take-le}
 use Rattle.line.specs.Books.{view_line}
 use Rattle.ordering.specs.declared.calls.Call.TheVariants.{Open}
-use Rattle.stations.proofs.Playing.{SoFar, none_made, one_more_lem, no_room, all_made}
+use Rattle.stations.proofs.Playing.{SoFar, one_more_lem, no_room, all_made}
 use Rattle.stations.proofs.play.play.Goals as goal
 use Rattle.stations.proofs.play.play.Goals.{then-i-answers, else-i-answers}
-
-pub loop-i-init : goal.loop-i-init
-loop-i-init g c =
-    none_made g.S.Kind.Machine.kind c.args.answers.now (view_line c.new-line.result.book) (g.S.Stations.held c.fresh-stations.result) c.new-line.ensures.leads c.fresh-stations.ensures
 
 pub loop-i-preserved : goal.loop-i-preserved
 loop-i-preserved g c =
