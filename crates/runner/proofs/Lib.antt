@@ -1,6 +1,8 @@
 mod Bounds
 mod CellLoops
+mod Following
 mod Reporting
+mod RoomLeft
 mod Seeking
 mod StepBounds
 mod StepLoop

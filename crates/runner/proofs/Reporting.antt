@@ -29,39 +29,6 @@ made_laws Tally = tally_laws
 pub made_ordered : (k : MachineKind) (cs : List Call) → Ordered (made k) (after (made k) cs)
 made_ordered k cs = ordered_always (made k) (made_laws k) cs
 
--- Nothing is run of a script that is too long.
-pub too_long : (script before : List ℕ) → script_limit < length script → Reported (outcome script (length before)) before before (record { written = 0; fault = Some (fault_as ScriptTooLong 0 0) })
-too_long script before lt =
-    subst (λ o. Reported o before before (record { written = 0; fault = Some (fault_as ScriptTooLong 0 0) }))
-    (sym (ap (λ b. cond b (ended [] (Some (fault_as ScriptTooLong 0 0))) (runs (made (kind_of_script script)) script (length before))) (lt-ltb script_limit (length script) lt)))
-    (record { trace = refl; written = refl; fault = refl })
-
--- From the trace that was written to the outcome.
-pub reported : (k : MachineKind) (script before now : List ℕ) (r : Report) → k ≡ kind_of_script script → length script ≤ script_limit → Appended before 0 (runs (made k) script (length before - 0)).trace now r.written → length (runs (made k) script (length before - 0)).trace ≤ length before - 0 → r.fault ≡ (runs (made k) script (length before - 0)).fault → Reported (outcome script (length before)) before now r
-reported k script before now r is short adds fits fault =
-    subst (λ o. Reported o before now r) (sym same)
-    (record {
-      trace = w.0 ∙ ap (λ n. (runs (made k) script (length before - 0)).trace ++ drop n before) (zero-add (length (runs (made k) script (length before - 0)).trace));
-      written = w.1 ∙ zero-add (length (runs (made k) script (length before - 0)).trace);
-      fault = fault;
-    })
-  where
-    w : (now ≡ (runs (made k) script (length before - 0)).trace ++ drop (0 + length (runs (made k) script (length before - 0)).trace) before) × (r.written ≡ 0 + length (runs (made k) script (length before - 0)).trace)
-    w = whole before 0 (runs (made k) script (length before - 0)).trace now r.written fits adds
-
-    none : length before ≡ length before - 0
-    none = omega arith
-
-    same : outcome script (length before) ≡ runs (made k) script (length before - 0)
-    same =
-        ap (λ b. cond b (ended [] (Some (fault_as ScriptTooLong 0 0))) (runs (made (kind_of_script script)) script (length before))) (le-ltb script_limit (length script) short)
-        ∙ (λ i. runs (made (sym is i)) script (none i))
-
-pub reported_within : (k : MachineKind) (script before now : List ℕ) (r : Report) → Appended before 0 (runs (made k) script (length before - 0)).trace now r.written → length (runs (made k) script (length before - 0)).trace ≤ length before - 0 → r.written ≤ length before
-reported_within k script before now r adds fits =
-    let w : r.written ≡ 0 + length (runs (made k) script (length before - 0)).trace = (whole before 0 (runs (made k) script (length before - 0)).trace now r.written fits adds).1 in
-    omega arith
-
 -- Whatever a script comes to, its trace tells the calls and the cells.
 pub outcome_told : (script : List ℕ) (room : ℕ) → Told (made (kind_of_script script)) (outcome script room)
 outcome_told script room = go (ltb script_limit (length script))

@@ -7,6 +7,7 @@ use Rattle.ordering.proofs.Basics.{some_inj, none_some}
 use Rattle.ordering.specs.Answering.{answer_of}
 use Rattle.ordering.specs.declared.calls.Answer.{Answer}
 use Rattle.ordering.specs.declared.calls.Call.{Call}
+use Rattle.ordering.specs.Steps.{Outcome as Answered}
 use Rattle.ordering.specs.Worlds.{after, step}
 use Rattle.script.specs.declared.faults.Cause.TheVariants.{TraceFull}
 use Rattle.script.specs.declared.faults.Fault.{Fault}
@@ -19,7 +20,7 @@ use Rattle.std.specs.List.{flat_map}
 use Rattle.runner.specs.Told.{Told, step_records}
 
 -- The answers to calls that come after others.
-answers_from : Kind → List Call → List Call → List Answer
+answers_from : Kind → List Call → List Call → List (Answered Answer)
 answers_from K cs [] = []
 answers_from K cs (c ∷ more) = answer_to K cs c ∷ answers_from K (c ∷ cs) more
 

@@ -1,4 +1,5 @@
 pub mod Cells
+pub mod Following
 pub mod Reports
 pub mod Runs
 pub mod Scripts

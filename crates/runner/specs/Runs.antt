@@ -5,6 +5,7 @@ use Rattle.machine.specs.Kinds.{Kind}
 use Rattle.ordering.specs.Answering.{answer_of}
 use Rattle.ordering.specs.declared.calls.Answer.{Answer}
 use Rattle.ordering.specs.declared.calls.Call.{Call}
+use Rattle.ordering.specs.Steps.{Outcome as Answered}
 use Rattle.ordering.specs.Worlds.{after, step}
 use Rattle.script.specs.declared.faults.Cause.{Cause}
 use Rattle.script.specs.declared.faults.Cause.TheVariants.{TraceFull}
@@ -43,7 +44,7 @@ finish K script room cs =
     writes_all cs (fault_as TraceFull 0 (length script)) room (cell_records (after K cs).cells 0 (member_count (after K cs).line))
 
 -- The answer to a call that comes after others.
-abbrev pub answer_to : Kind → List Call → Call → Answer
+abbrev pub answer_to : Kind → List Call → Call → Answered Answer
 answer_to K cs c = answer_of (step K (after K cs).line c).event
 
 -- The step of record n, which begins at an offset: there is room for its record, and it is read.
@@ -53,11 +54,6 @@ in_record n (Err e) = Err (fault_as e.cause n e.at)
 
 abbrev pub next_step : List ℕ → ℕ → ℕ → ℕ → Result StepRead Fault
 next_step script room n at = cond (nat_lt room 48) (Err (fault_as TraceFull n at)) (in_record n (step_at (drop at script) at))
-
--- A step that was read ends behind where it began, and no further than the script.
-abbrev pub Onward : List ℕ → ℕ → Result StepRead Fault → Type 0
-Onward script at (Ok s) = at < length script → (at < s.next) × (s.next ≤ length script)
-Onward script at (Err f) = Unit {0}
 
 -- One step: the call is made and its record written, and then comes the next; or a fault ends the script.
 abbrev pub steps : (ℕ → List Call → ℕ → ℕ → Outcome) → Kind → ℕ → List Call → ℕ → Result StepRead Fault → Outcome

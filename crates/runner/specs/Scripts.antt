@@ -1,12 +1,11 @@
 -- A whole script: the kind of its stations, and what it comes to.
-use Rattle.std.specs.Prelude.{ℕ, zero, suc, Bool, true, false, cond, List, [], length, drop, Some, None, Ok, Err, Option, nat_le, nat_lt}
+use Rattle.std.specs.Prelude.{ℕ, zero, suc, cond, List, [], length, drop, Some, None, Ok, Err, Option, nat_le, nat_lt}
+use Rattle.std.specs.Result.{is_ok}
 use Rattle.machine.specs.AxisBanks.{axis_bank}
 use Rattle.machine.specs.Kinds.{Kind}
 use Rattle.machine.specs.Recorders.{recorder}
 use Rattle.machine.specs.Tallies.{tally}
 use Rattle.ordering.specs.Answering.{answer_of}
-use Rattle.ordering.specs.declared.calls.Answer.{Answer}
-use Rattle.ordering.specs.declared.calls.Answer.TheVariants.{Opened, Issued, Proposed, Fixed, Clock, Ran, Refused}
 use Rattle.ordering.specs.Worlds.{closed_turn}
 use Rattle.script.specs.declared.faults.Cause.TheVariants.{ScriptTooLong}
 use Rattle.script.specs.declared.steps.MachineKind.{MachineKind}
@@ -26,18 +25,14 @@ made AxisBank = axis_bank
 made Recorder = recorder
 made Tally = tally
 
-abbrev pub accepted : Answer → Bool
-accepted Opened = true
-accepted (Issued k) = true
-accepted (Proposed t) = true
-accepted (Fixed f) = true
-accepted (Clock t) = true
-accepted (Ran p) = true
-accepted (Refused e) = false
-
 -- The kind that a step fixes on a closed line: that of an open that is accepted.
 abbrev pub fixes : Step → Option MachineKind
-fixes s = cond (accepted (answer_of (closed_turn s.call).event)) s.kind None
+fixes s = cond (is_ok (answer_of (closed_turn s.call).event)) s.kind None
+
+-- The same of what is read of a record.
+abbrev pub fixed_by : Read StepRead → Option MachineKind
+fixed_by (Ok s) = fixes s.step
+fixed_by (Err e) = None
 
 -- The first kind that a step fixes. A line is closed until then, so this step is the first open that is accepted.
 -- Where none is, no station is ever used or shown, and any kind will do.

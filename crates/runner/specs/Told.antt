@@ -5,6 +5,7 @@ use Rattle.line.specs.Counts.{member_count}
 use Rattle.machine.specs.Kinds.{Kind}
 use Rattle.ordering.specs.declared.calls.Answer.{Answer}
 use Rattle.ordering.specs.declared.calls.Call.{Call}
+use Rattle.ordering.specs.Steps.{Outcome as Answered}
 use Rattle.script.specs.declared.faults.Fault.{Fault}
 use Rattle.stations.specs.Played.{played, answers_to}
 use Rattle.trace.specs.Records.{step_record}
@@ -12,7 +13,7 @@ use Rattle.runner.specs.Cells.{cell_records}
 use Rattle.runner.specs.Runs.{Outcome}
 
 -- The records of calls with their answers, numbered from n on.
-abbrev pub step_records : ℕ → List Call → List Answer → List ℕ
+abbrev pub step_records : ℕ → List Call → List (Answered Answer) → List ℕ
 step_records n [] answers = []
 step_records n (c ∷ cs) [] = []
 step_records n (c ∷ cs) (a ∷ answers) = step_record n c a ++ step_records (suc n) cs answers

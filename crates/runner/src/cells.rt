@@ -6,9 +6,9 @@ ghost use Rattle.runner.specs.Runs.{fault_as, writes_all};
 ghost use Rattle.runner.specs.Writing.{Wrote, WroteRecords, room_of};
 ghost use Rattle.script.specs.declared.faults.Cause.TheVariants.{TraceFull};
 
-use crate::steps::RECORD_ROOM;
+use crate::room::room_for_record;
 use machine::kind::Machine;
-use script::faults::{Cause, Fault};
+use script::faults::Fault;
 use stations::interface::Stations;
 use trace::Trace;
 
@@ -23,14 +23,8 @@ fn write_station<S: Stations>(
     requires counted { length (S.held stations.now member) ≡ S.Kind.kind.count }
     ensures { WroteRecords (fault_as TraceFull 0 end) (station_records member 0 (S.held stations.now member)) trace.old trace.new result }
 {
-    for i in 0..S::Kind::count() {
-        if trace.room() < RECORD_ROOM {
-            return Err(Fault {
-                cause: Cause::TraceFull,
-                record: 0,
-                at: end,
-            });
-        }
+    for i in 0..S::Kind::CELLS {
+        room_for_record(trace, 0, end)?;
         if let Some(value) = stations.read(member, i) {
             trace.cell(member, i, value);
         }

@@ -1,40 +1,33 @@
 //! The kind of a script's stations.
-ghost use Rattle.runner.specs.Scripts.{fixes, kind_of_script};
+ghost use Rattle.runner.specs.Scripts.{fixed_by, kind_of_script};
 ghost use Rattle.std.specs.Prelude.{◌≡◌};
 
+use crate::records::Records;
+use crate::scripts::Script;
 use line::state::Line;
 use machine::tally::Tally;
 use ordering::calls::Call;
-use script::records::read_step;
-use script::steps::{MachineKind, Step};
+use script::steps::{MachineKind, StepFault, StepRead};
 
-/// The kind that a step fixes on a closed line: that of an open that is accepted.
-fn fixed_kind(step: Step) -> Option<MachineKind>
-    ensures { result ≡ fixes step }
+/// The kind that a record's step fixes on a closed line, if it could be read: that of an open that is accepted.
+fn fixed_kind(read: Result<StepRead, StepFault>) -> Option<MachineKind>
+    ensures { result ≡ fixed_by read }
 {
+    let step = read.ok()?.step;
     let Call::Open { members, last } = step.call else {
         return None;
     };
-    let mut line = Line::<Tally>::new();
-    match line.open(members, last) {
-        Ok(()) => step.kind,
-        Err(_) => None,
-    }
+    Line::<Tally>::new().open(members, last).ok().and(step.kind)
 }
 
 /// The kind of the first open that a closed line accepts.
-pub(crate) fn kind_of(script: &[u8]) -> MachineKind
-    ensures { result ≡ kind_of_script script.now }
+pub(crate) fn kind_of(script: Script<'_>) -> MachineKind
+    ensures { result ≡ kind_of_script script.entry.bytes.now }
 {
-    let mut at = 0;
-    while at < script.len() {
-        let Ok(read) = read_step(script, at) else {
-            return MachineKind::Tally;
-        };
-        if let Some(kind) = fixed_kind(read.step) {
+    for record in Records::of(script) {
+        if let Some(kind) = fixed_kind(record.read) {
             return kind;
         }
-        at = read.next;
     }
     MachineKind::Tally
 }

@@ -3,5 +3,8 @@
 
 mod cells;
 mod kinds;
+mod records;
+mod room;
 pub mod run;
+mod scripts;
 mod steps;

@@ -1,5 +1,5 @@
 //! The call that runs a script.
-ghost use Rattle.std.specs.Prelude.{◌≡◌, ◌-◌, ◌≤◌, length};
+ghost use Rattle.std.specs.Prelude.{◌≤◌, length};
 ghost use Rattle.ordering.specs.Ordering.{Ordered};
 ghost use Rattle.ordering.specs.Worlds.{after};
 ghost use Rattle.runner.specs.Reports.{Reported};
@@ -7,11 +7,11 @@ ghost use Rattle.runner.specs.Runs.{runs};
 ghost use Rattle.runner.specs.Scripts.{kind_of_script, made, outcome};
 ghost use Rattle.runner.specs.Told.{Told};
 ghost use Rattle.runner.specs.Writing.{Wrote, room_of};
-ghost use Rattle.trace.specs.Appending.{Appended};
 
 use crate::kinds::kind_of;
+use crate::scripts::Script;
 use crate::steps::run_steps;
-use script::faults::{Cause, Fault};
+use script::faults::Fault;
 use script::steps::MachineKind;
 use stations::axis_stations::AxisStations;
 use stations::recorder_stations::RecorderStations;
@@ -29,9 +29,8 @@ pub struct Report {
 }
 
 /// Runs the steps of a script with stations of its kind.
-fn run_as(kind: MachineKind, script: &[u8], trace: &mut Trace<'_>) -> Result<(), Fault>
-    requires { length script.now ≤ 65536 }
-    ensures { Wrote (runs (made kind) script.now (room_of trace.old)) trace.old trace.new result }
+fn run_as(kind: MachineKind, script: Script<'_>, trace: &mut Trace<'_>) -> Result<(), Fault>
+    ensures { Wrote (runs (made kind) script.entry.bytes.now (room_of trace.old)) trace.old trace.new result }
 {
     match kind {
         MachineKind::AxisBank => run_steps::<AxisStations>(script, trace),
@@ -40,19 +39,12 @@ fn run_as(kind: MachineKind, script: &[u8], trace: &mut Trace<'_>) -> Result<(),
     }
 }
 
-/// Runs the steps of a script and writes its trace from the first of the bytes on.
-fn run_into(kind: MachineKind, script: &[u8], bytes: &mut [u8]) -> Report
-    requires { length script.now ≤ 65536 }
-    ensures adds { Appended bytes.old 0 (runs (made kind) script.now (length bytes.old - 0)).trace bytes.new result.written }
-    ensures fits { length (runs (made kind) script.now (length bytes.old - 0)).trace ≤ length bytes.old - 0 }
-    ensures fault { result.fault ≡ (runs (made kind) script.now (length bytes.old - 0)).fault }
+/// Runs a script, if it is not too long, and writes its trace.
+fn run_into(bytes: &[u8], trace: &mut Trace<'_>) -> Result<(), Fault>
+    ensures { Wrote (outcome bytes.now (room_of trace.old)) trace.old trace.new result }
 {
-    let mut trace = Trace { bytes, used: 0 };
-    let result = run_as(kind, script, &mut trace);
-    Report {
-        written: trace.used,
-        fault: result.err(),
-    }
+    let script = Script::new(bytes)?;
+    run_as(kind_of(script), script, trace)
 }
 
 /// Runs a script on a new line with fresh stations, and writes its trace into the caller's bytes: as many records as
@@ -63,15 +55,13 @@ pub fn run_script(script: &[u8], trace: &mut [u8]) -> Report
     ensures within { result.written ≤ length trace.old }
     ensures ordered { Ordered (made (kind_of_script script.now)) (after (made (kind_of_script script.now)) (outcome script.now (length trace.old)).calls) }
 {
-    if script.len() > SCRIPT_LIMIT {
-        return Report {
-            written: 0,
-            fault: Some(Fault {
-                cause: Cause::ScriptTooLong,
-                record: 0,
-                at: 0,
-            }),
-        };
+    let mut trace = Trace {
+        bytes: trace,
+        used: 0,
+    };
+    let result = run_into(script, &mut trace);
+    Report {
+        written: trace.used,
+        fault: result.err(),
     }
-    run_into(kind_of(script), script, trace)
 }

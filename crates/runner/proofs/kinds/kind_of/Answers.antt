@@ -1,28 +1,28 @@
-use Rattle.std.proofs.Common.{arith}
-use Rattle.runner.proofs.Seeking.{seeking_start, seeking_faulty, seeking_found, seeking_more, seeking_less, seeking_done}
+use Rattle.std.proofs.Common.{sym, ap, ◌∙◌, subst}
+use Rattle.runner.proofs.Following.{follows}
+use Rattle.runner.proofs.Seeking.{Seeking, seeking_start, record_found, record_passed}
 use Rattle.runner.proofs.kinds.kind_of.Goals as goal
 
-pub loop-at-init : goal.loop-at-init
-loop-at-init c = seeking_start c.args.script.now
+pub loop-record-init : goal.loop-record-init
+loop-record-init c =
+    let e = c.into_iter-record-iterator.ensures.into_iter_gives in
+    record {
+      can = tt;
+      finite = tt;
+      same = ap (λ s. s.script.bytes.now) e ∙ c.of-record-items.ensures.whole;
+      seeking = subst (Seeking c.args.script.bytes.now) (sym (ap (λ s. s.at) e ∙ c.of-record-items.ensures.first)) (seeking_start c.args.script.bytes.now);
+    }
 
-pub returns-in_default : goal.returns-in_default
-returns-in_default c =
-    seeking_faulty c.args.script.now c.loop-at.at c.loop-at.invariant c.in_default.field-0 c.loop-at-test.true c.in_default.ensures.answers
+pub returns-in-Some-fixed_kind : goal.returns-in-Some-fixed_kind
+returns-in-Some-fixed_kind c =
+    record_found c.args.script.bytes.now c.loop-record.record-iterator c.in-Some.record c.next.new.self c.loop-record.invariant.seeking (follows _ _ _ _ c.loop-record.invariant.same c.in-Some.ensures.steps) c.in-Some-fixed_kind.kind (sym c.in-Some-fixed_kind.is ∙ c.fixed_kind.ensures)
 
-pub returns-in-Some : goal.returns-in-Some
-returns-in-Some c =
-    seeking_found c.args.script.now c.loop-at.at c.loop-at.invariant c.in-Ok.read c.loop-at-test.true c.in-Ok.ensures.answers c.in-Some.kind c.in-Some.ensures
-
-pub loop-at-smaller : goal.loop-at-smaller
-loop-at-smaller c =
-    let on = seeking_less c.args.script.now c.loop-at.at c.loop-at.invariant c.in-Ok.read c.loop-at-test.true c.in-Ok.ensures.answers c.in-Ok.ensures.ends in
-    let up = on.0 in
-    let end = on.1 in
-    omega arith
-
-pub loop-at-preserved : goal.loop-at-preserved
-loop-at-preserved c =
-    seeking_more c.args.script.now c.loop-at.at c.loop-at.invariant c.in-Ok.read c.loop-at-test.true c.in-Ok.ensures.answers c.in_default-fixed_kind.ensures c.in-Ok.ensures.ends
-
-pub returns : goal.returns
-returns c = seeking_done c.args.script.now c.loop-at.at c.loop-at.invariant c.loop-at-test.false
+pub loop-record-preserved : goal.loop-record-preserved
+loop-record-preserved c =
+    let f = follows c.args.script.bytes.now c.loop-record.record-iterator c.in-Some.record c.next.new.self c.loop-record.invariant.same c.in-Some.ensures.steps in
+    record {
+      can = tt;
+      finite = tt;
+      same = f.same;
+      seeking = record_passed c.args.script.bytes.now c.loop-record.record-iterator c.in-Some.record c.next.new.self c.loop-record.invariant.seeking f (sym c.in_default.is ∙ c.fixed_kind.ensures);
+    }

@@ -1,11 +1,13 @@
-use Rattle.std.proofs.Common.{◌-◌, length}
+use Rattle.std.proofs.Common.{◌≡◌}
 use Rattle.line.specs.Books.{view_line}
 use Rattle.runner.proofs.StepLoop.{Going}
 use Rattle.runner.proofs.steps.run_steps.Given as goal
 
-abbrev pub invariant-loop-at : goal.invariant-loop-at
-invariant-loop-at g l =
-    Going g.S.Kind.Machine.kind l.script l.initial.trace l.trace l.at l.number (view_line l.line.book) (g.S.Stations.held l.stations)
-
-abbrev pub decreases-loop-at : goal.decreases-loop-at
-decreases-loop-at g l = length l.script - l.at
+abbrev pub invariant-loop-record : goal.invariant-loop-record
+invariant-loop-record g l =
+    record {
+      can : (goal.iterator-loop-record g).can_next l.record-iterator;
+      finite : (goal.iterator-loop-record g).is_finite l.record-iterator;
+      same : l.record-iterator.script.bytes.now ≡ l.script.bytes.now;
+      going : Going g.S.Kind.Machine.kind l.script.bytes.now l.initial.trace l.trace l.record-iterator.at l.record-iterator.number (view_line l.line.book) (g.S.Stations.held l.stations);
+    }
