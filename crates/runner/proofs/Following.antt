@@ -1,5 +1,5 @@
 -- The next of a script's records.
-use Rattle.std.proofs.Common.{◌≡◌, ℕ, ◌≤◌, List, length, None, subst}
+use Rattle.std.proofs.Common.{◌≡◌, ℕ, List, subst}
 use Rattle.runner.specs.declared.records.Record.{Record}
 use Rattle.runner.specs.declared.records.Records.{Records}
 use Rattle.runner.specs.Following.{Follows}

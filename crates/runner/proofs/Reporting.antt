@@ -1,6 +1,5 @@
 -- The call that runs a script: what is left and answered, and the ordering theorem of its calls.
-use Rattle.std.proofs.Common.{◌≡◌, ℕ, ◌+◌, ◌-◌, ◌<◌, ◌≤◌, Bool, true, false, cond, ltb, List, [], ◌++◌, length, drop, Some, sym, refl, ap, ◌∙◌, subst, zero-add, arith}
-use Rattle.std.proofs.lemmas.Bool.{lt-ltb, le-ltb}
+use Rattle.std.proofs.Common.{ℕ, Bool, true, false, cond, ltb, List, [], length, Some}
 use Rattle.machine.specs.Banks.{bank_laws}
 use Rattle.machine.specs.Records.{recorder_laws}
 use Rattle.machine.specs.TalliesLemmas.{tally_laws}
@@ -12,10 +11,6 @@ use Rattle.ordering.specs.Worlds.{after}
 use Rattle.script.specs.declared.faults.Cause.TheVariants.{ScriptTooLong}
 use Rattle.script.specs.declared.steps.MachineKind.{MachineKind}
 use Rattle.script.specs.declared.steps.MachineKind.TheVariants.{AxisBank, Recorder, Tally}
-use Rattle.trace.proofs.Appending.{whole}
-use Rattle.trace.specs.Appending.{Appended}
-use Rattle.runner.specs.declared.run.Report.{Report}
-use Rattle.runner.specs.Reports.{Reported}
 use Rattle.runner.specs.Runs.{ended, fault_as, runs}
 use Rattle.runner.specs.Scripts.{kind_of_script, made, outcome, script_limit}
 use Rattle.runner.specs.Told.{Told}

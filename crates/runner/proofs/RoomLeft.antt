@@ -1,7 +1,6 @@
 -- What is known where there was room for a record, and where there was none.
-use Rattle.std.proofs.Common.{◌≡◌, ℕ, ◌<◌, ◌≤◌, Bool, true, false, cond, ltb, Ok, Err, Result, refl, arith}
+use Rattle.std.proofs.Common.{◌≡◌, ℕ, ◌<◌, ◌≤◌, Bool, true, false, cond, ltb, Ok, Err, refl}
 use Rattle.std.proofs.lemmas.Bool.{ltb-true, ltb-false}
-use Rattle.ordering.proofs.Basics.{err_ok}
 use Rattle.script.specs.declared.faults.Fault.{Fault}
 
 pub full_trace : (full f : Fault) (room : ℕ) → Err f ≡ cond (ltb room 48) (Err full) (Ok (tt {0})) → (room < 48) × (f ≡ full)

@@ -1,7 +1,6 @@
 -- A step that was read: its number has at most fifteen digits.
-use Rattle.std.proofs.Common.{◌≡◌, ℕ, ◌+◌, ◌-◌, ◌^◌, ◌<◌, ◌≤◌, Bool, true, false, cond, ltb, List, length, drop, Some, Ok, Err, sym, refl, ap, ◌∙◌, subst, arith}
-use Rattle.std.proofs.lemmas.List.{length-drop}
-use Rattle.std.proofs.lemmas.Bool.{le-ltb, ltb-false}
+use Rattle.std.proofs.Common.{◌≡◌, ℕ, ◌^◌, ◌<◌, ◌≤◌, Bool, true, false, cond, ltb, List, drop, Some, Ok, Err, sym, refl, ap, ◌∙◌, subst}
+use Rattle.std.proofs.lemmas.Bool.{ltb-false}
 use Rattle.ordering.proofs.Basics.{some_inj, none_some, ok_inj, err_ok}
 use Rattle.record.specs.Cut.{cut_record}
 use Rattle.script.proofs.Means.{means}
@@ -9,7 +8,7 @@ use Rattle.script.specs.declared.faults.Cause.TheVariants.{TraceFull}
 use Rattle.script.specs.declared.steps.Step.{Step}
 use Rattle.script.specs.declared.steps.StepRead.{StepRead}
 use Rattle.script.specs.Fields.{Read}
-use Rattle.script.specs.Steps.{Ends, step_at}
+use Rattle.script.specs.Steps.{step_at}
 use Rattle.script.specs.Texts.{StepText, gathers, hears, opens, runs, sends, settles}
 use Rattle.trace.specs.Records.{named}
 use Rattle.runner.specs.Runs.{fault_as, in_record, next_step}

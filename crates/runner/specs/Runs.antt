@@ -1,5 +1,5 @@
 -- What a script comes to: the calls that it makes, its trace, and its fault.
-use Rattle.std.specs.Prelude.{ℕ, zero, suc, ◌-◌, ◌<◌, ◌≤◌, cond, List, [], ◌∷◌, ◌++◌, length, drop, Some, None, Ok, Err, Option, Result, nat_le, nat_lt}
+use Rattle.std.specs.Prelude.{ℕ, zero, suc, ◌-◌, cond, List, [], ◌∷◌, ◌++◌, length, drop, Some, None, Ok, Err, Option, Result, nat_le, nat_lt}
 use Rattle.line.specs.Counts.{member_count}
 use Rattle.machine.specs.Kinds.{Kind}
 use Rattle.ordering.specs.Answering.{answer_of}

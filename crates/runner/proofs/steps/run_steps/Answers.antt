@@ -1,4 +1,4 @@
-use Rattle.std.proofs.Common.{◌+◌, ◌≤◌, length, Err, sym, ap, ◌∙◌, subst, rules}
+use Rattle.std.proofs.Common.{◌≤◌, length, Err, sym, ap, ◌∙◌, subst, rules}
 use Rattle.std.proofs.lemmas.Result.{err_from_is_err_and}
 use Rattle.line.specs.Books.{view_line}
 use Rattle.script.specs.declared.faults.Cause.TheVariants.{TraceFull}
@@ -6,7 +6,7 @@ use Rattle.runner.specs.Cells.{cell_records}
 use Rattle.runner.specs.Runs.{fault_as, runs, writes_all}
 use Rattle.runner.specs.Writing.{Wrote, room_of}
 use Rattle.runner.proofs.Following.{follows}
-use Rattle.runner.proofs.StepLoop.{Going, going_start, going_faulty, going_more, going_done, going_few, going_counted}
+use Rattle.runner.proofs.StepLoop.{going_start, going_faulty, going_more, going_done, going_few, going_counted}
 use Rattle.runner.proofs.steps.run_steps.Goals as goal
 
 pub loop-record-init : goal.loop-record-init
