@@ -8,15 +8,9 @@ mod tests {
 
     // Whether the bytes begin with this trace and hold dots behind it.
     fn holds(bytes: &[u8], trace: &[u8]) -> bool {
-        let Some(rest) = bytes.strip_prefix(trace) else {
-            return false;
-        };
-        for byte in rest {
-            if *byte != b'.' {
-                return false;
-            }
-        }
-        true
+        bytes
+            .strip_prefix(trace)
+            .is_some_and(|rest| rest.iter().all(|byte| *byte == b'.'))
     }
 
     // A fault's number, record and offset.
@@ -34,15 +28,11 @@ mod tests {
         trace: &[u8],
         fault: Option<(u8, usize, usize)>,
     ) -> bool {
-        if room > dots.len() {
+        let Some(start) = dots.get_mut(..room) else {
             return false;
-        }
-        let report = run_script(script, &mut dots[..room]);
-        let found = match report.fault {
-            Some(fault) => Some(shown(fault)),
-            None => None,
         };
-        found == fault && report.written == trace.len() && holds(dots, trace)
+        let report = run_script(script, start);
+        report.fault.map(shown) == fault && report.written == trace.len() && holds(dots, trace)
     }
 
     // The same of a thousand dots.
