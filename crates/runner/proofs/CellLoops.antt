@@ -1,7 +1,7 @@
 -- The cells of one station, and of all, written one by one.
-use Rattle.std.proofs.Common.{◌≡◌, ℕ, zero, suc, ◌+◌, ◌-◌, ◌^◌, ◌<◌, ◌≤◌, cond, ltb, List, [], ◌∷◌, ◌++◌, length, get_or, drop, Some, None, Ok, Err, Option, sym, refl, ap, ◌∙◌, subst, add-one, arith, drop-cons}
-use Rattle.std.proofs.lemmas.List.{drop_all}
+use Rattle.std.proofs.Common.{◌≡◌, ℕ, suc, ◌+◌, ◌-◌, ◌^◌, ◌<◌, ◌≤◌, cond, ltb, List, ◌∷◌, ◌++◌, length, get_or, drop, Some, None, Ok, Err, Option, sym, refl, ap, ◌∙◌, subst, add-one, arith, drop-cons}
 use Rattle.std.proofs.lemmas.Bool.{lt-ltb}
+use Rattle.std.proofs.lemmas.Option.{slice_get-get_or}
 use Rattle.std.specs.List.{slice_get}
 use Rattle.ordering.proofs.Basics.{some_inj}
 use Rattle.ordering.specs.declared.calls.Call.{Call}
@@ -20,17 +20,9 @@ abbrev pub AtCell : Fault → ℕ → List ℕ → Trace → Trace → ℕ → T
 AtCell full m cells t₀ t i =
     (cs : List Call) (more : List (List ℕ)) → Sofar (writes_all cs full (room_of t₀) (station_records m 0 cells ++ more)) (writes_all cs full (room_of t) (station_records m i (drop i cells) ++ more)) t₀ t
 
-pub at_first : (full : Fault) (m : ℕ) (cells : List ℕ) (t : Trace) → AtCell full m cells t t 0
-at_first full m cells t cs more = sofar_start (writes_all cs full (room_of t) (station_records m 0 cells ++ more)) t
-
 -- What is read at a place of a list.
-nth_some : (xs : List ℕ) (i : ℕ) → i < length xs → slice_get xs i ≡ Some (get_or xs i 0)
-nth_some [] i lt = absurd (omega arith)
-nth_some (x ∷ xs) zero lt = refl
-nth_some (x ∷ xs) (suc i) lt = nth_some xs i (omega arith)
-
 pub read_there : (m : ℕ) (cells : List ℕ) (i : ℕ) (r : Option ℕ) → m < 16 → i < length cells → r ≡ cond (ltb m 16) (slice_get cells i) None → r ≡ Some (get_or cells i 0)
-read_there m cells i r near lt is = is ∙ (ap (λ b. cond b (slice_get cells i) None) (lt-ltb m 16 near) ∙ nth_some cells i lt)
+read_there m cells i r near lt is = is ∙ (ap (λ b. cond b (slice_get cells i) None) (lt-ltb m 16 near) ∙ slice_get-get_or cells i 0 lt)
 
 module _ (full : Fault) (m : ℕ) (cells : List ℕ) (t₀ t : Trace) (i : ℕ) (s : AtCell full m cells t₀ t i) (lt : i < length cells) where
   next_record : station_records m i (drop i cells) ≡ cell_record m i (get_or cells i 0) ∷ station_records m (suc i) (drop (suc i) cells)
@@ -48,10 +40,6 @@ module _ (full : Fault) (m : ℕ) (cells : List ℕ) (t₀ t : Trace) (i : ℕ) 
   cell_written x t' room small index word is a =
       subst (λ k. AtCell full m cells t₀ t' k) (sym (add-one i))
       (λ cs more. record_written (writes_all cs full (room_of t₀) (station_records m 0 cells ++ more)) cs full (cell_record m i (get_or cells i 0)) (station_records m (suc i) (drop (suc i) cells) ++ more) t₀ t t' (here cs more) room (subst (λ z. length (cell_record m i z) ≤ 48) (some_inj is) (cell_record_fits m i x small index word)) (subst (λ z. Adds t (cell_record m i z) t') (some_inj is) a))
-
-pub cells_end : (full : Fault) (m : ℕ) (cells : List ℕ) (t₀ t : Trace) (i : ℕ) → AtCell full m cells t₀ t i → length cells ≤ i → WroteRecords full (station_records m 0 cells) t₀ t (Ok tt)
-cells_end full m cells t₀ t i s le cs more =
-    subst (λ rs. Sofar (writes_all cs full (room_of t₀) (station_records m 0 cells ++ more)) (writes_all cs full (room_of t) (rs ++ more)) t₀ t) (ap (station_records m i) (drop_all i cells le)) (s cs more)
 
 -- The stations of the members below m are written.
 abbrev pub AtMember : Fault → (ℕ → List ℕ) → ℕ → Trace → Trace → ℕ → Type 0

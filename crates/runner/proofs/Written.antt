@@ -1,7 +1,8 @@
 -- Records written one behind the other, while there is room.
-use Rattle.std.proofs.Common.{◌≡◌, ℕ, zero, suc, ◌+◌, ◌-◌, ◌<◌, ◌≤◌, min, cond, List, [], ◌∷◌, ◌++◌, length, take, drop, Some, None, Ok, Err, Option, Result, sym, refl, ap, ◌∙◌, subst, append_assoc, append-nil, add-zero, arith}
+use Rattle.std.proofs.Common.{◌≡◌, ℕ, ◌+◌, ◌-◌, ◌<◌, ◌≤◌, min, cond, List, [], ◌∷◌, ◌++◌, length, take, drop, Some, None, Ok, Err, Option, Result, sym, refl, ap, ◌∙◌, subst, append_assoc, append-nil, add-zero, arith}
 use Rattle.std.proofs.lemmas.List.{length-append, length-drop, length-take, take-append-drop}
 use Rattle.std.proofs.lemmas.Bool.{lt-ltb, le-ltb}
+use Rattle.std.proofs.Math.Seq.{take-nil}
 use Rattle.std.specs.Result.{result_err}
 use Rattle.ordering.specs.declared.calls.Call.{Call}
 use Rattle.script.specs.declared.faults.Fault.{Fault}
@@ -12,10 +13,6 @@ use Rattle.runner.specs.Runs.{Outcome, ended, writes, writes_all}
 use Rattle.runner.specs.Writing.{Sofar, Wrote, room_of}
 
 -- Nothing is added.
-nothing_fits : (n : ℕ) → take {A = ℕ} n [] ≡ []
-nothing_fits zero = refl
-nothing_fits (suc n) = refl
-
 pub adds_nothing : (t : Trace) → Adds t [] t
 adds_nothing t =
     record {
@@ -24,7 +21,7 @@ adds_nothing t =
     }
   where
     none : fitting t.bytes.now t.used [] ≡ []
-    none = nothing_fits (length t.bytes.now - t.used)
+    none = take-nil (length t.bytes.now - t.used)
 
 -- As many bytes as before, and so much less room.
 same_length : (before : List ℕ) (used : ℕ) (new after : List ℕ) (used' : ℕ) → Appended before used new after used' → length after ≡ length before

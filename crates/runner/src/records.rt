@@ -57,10 +57,7 @@ impl Iterator for Records<'_> {
         }
         let at = self.at;
         let read = read_step(self.script.bytes, at);
-        self.at = match read {
-            Ok(read) => read.next,
-            Err(_) => self.script.bytes.len(),
-        };
+        self.at = read.map_or(self.script.bytes.len(), |read| read.next);
         self.number += 1;
         Some(Record {
             number: self.number,

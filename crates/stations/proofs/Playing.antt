@@ -1,6 +1,6 @@
 -- A whole list of calls, one call at a time.
-use Rattle.std.proofs.Common.{◌≡◌, ℕ, zero, suc, ◌+◌, ◌<◌, ◌≤◌, List, [], ◌∷◌, ◌++◌, map, reverse, length, get_or, take, drop, set, sym, refl, ap, ◌∙◌, subst, append_assoc, add-one, arith, length-append, drop-cons}
-use Rattle.std.proofs.lemmas.List.{map-append, reverse-append, take_all, take-append-le, drop_all}
+use Rattle.std.proofs.Common.{◌≡◌, ℕ, suc, ◌+◌, ◌<◌, ◌≤◌, List, [], ◌∷◌, ◌++◌, map, reverse, length, get_or, take, drop, set, sym, refl, ap, ◌∙◌, subst, append_assoc, add-one, arith, length-append, drop-cons}
+use Rattle.std.proofs.lemmas.List.{set_at, map-append, reverse-append, take_all, take-append-le, drop_all}
 use Rattle.machine.specs.Kinds.{Kind, Laws}
 use Rattle.ordering.proofs.Always.{ordered_always}
 use Rattle.ordering.specs.Answering.{answer_of}
@@ -20,24 +20,12 @@ pub record SoFar (K : Kind) (cs : List Call) (before now : List (Outcome Answer)
   pub count : length (answers_to K cs) ≡ length cs
   pub answers : now ≡ take (length before) (answers_to K cs) ++ drop (length cs) before
 
-pub none_made : (K : Kind) (before : List (Outcome Answer)) (l : Line) (held : ℕ → List ℕ) → (after K []).line ≡ l → ((m : ℕ) → m < 16 → held m ≡ K.starting) → SoFar K [] before before l held
-none_made K before l held is fresh =
-    record { line = is; cells = λ m near. sym (fresh m near); count = refl; answers = nothing (length before) before }
-  where
-    nothing : (n : ℕ) (xs : List (Outcome Answer)) → xs ≡ take n [] ++ drop 0 xs
-    nothing zero xs = refl
-    nothing (suc n) xs = refl
-
-set_behind : {X : Type 0} (xs : List X) (y z : X) (zs : List X) → set (xs ++ z ∷ zs) (length xs) y ≡ xs ++ y ∷ zs
-set_behind [] y z zs = refl
-set_behind (x ∷ xs) y z zs = ap (λ ws. x ∷ ws) (set_behind xs y z zs)
-
 -- One answer more, where there is room and where there is none.
 written : (before done : List (Outcome Answer)) (a : Outcome Answer) → length done < length before → set (take (length before) done ++ drop (length done) before) (length done) a ≡ take (length before) (done ++ a ∷ []) ++ drop (length done + 1) before
 written before done a l =
     ap (λ xs. set (xs ++ drop (length done) before) (length done) a) (take_all (length before) done (omega arith))
     ∙ (ap (λ xs. set (done ++ xs) (length done) a) (drop-cons before (length done) a l)
-    ∙ (set_behind done a (get_or before (length done) a) (drop (suc (length done)) before)
+    ∙ (set_at done (get_or before (length done) a) (drop (suc (length done)) before) a (length done) refl
     ∙ (sym (append_assoc done (a ∷ []) (drop (suc (length done)) before))
     ∙ (ap (λ n. (done ++ a ∷ []) ++ drop n before) (sym (add-one (length done)))
     ∙ ap (λ xs. xs ++ drop (length done + 1) before) (sym (take_all (length before) (done ++ a ∷ []) (let w = length-append done (a ∷ []) in omega arith)))))))

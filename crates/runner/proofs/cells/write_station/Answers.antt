@@ -6,13 +6,9 @@ use Rattle.runner.specs.Runs.{fault_as}
 use Rattle.runner.specs.Cells.{station_records}
 use Rattle.runner.specs.Writing.{WroteRecords, room_of}
 use Rattle.runner.proofs.RoomLeft.{full_trace, room_left}
-use Rattle.runner.proofs.CellLoops.{AtCell, at_first, read_there, cell_full, cell_written, cells_end}
+use Rattle.runner.proofs.CellLoops.{AtCell, read_there, cell_full, cell_written}
 use Rattle.runner.proofs.cells.write_station.Goals.{in-Some, in_default}
 use Rattle.runner.proofs.cells.write_station.Goals as goal
-
-pub loop-i-init : goal.loop-i-init
-loop-i-init g c =
-    at_first (fault_as TraceFull 0 c.args.end) c.args.member (g.S.Stations.held c.args.stations.now c.args.member) c.args.trace.now
 
 pub returns-in_err-room_for_record : goal.returns-in_err-room_for_record
 returns-in_err-room_for_record g c =
@@ -33,7 +29,3 @@ loop-i-preserved g c =
           (cell_written (fault_as TraceFull 0 c.args.end) c.args.member (g.S.Stations.held c.args.stations.now c.args.member) c.args.trace.now c.loop-i.trace c.loop-i.i c.loop-i.invariant lt w.in-Some.value w.cell.new.self room (let a = c.requires.near in omega arith) (let a = c.loop-i-test.true in let b = c.CELLS-i-end.type_inv in omega arith) (search rules) (sym w.in-Some.is ∙ there) w.cell.ensures)
       | in_default w ↦ absurd (none_some (sym w.in_default.is ∙ there))
     ]
-
-pub returns : goal.returns
-returns g c =
-    cells_end (fault_as TraceFull 0 c.args.end) c.args.member (g.S.Stations.held c.args.stations.now c.args.member) c.args.trace.now c.loop-i.trace c.loop-i.i c.loop-i.invariant (let a = c.loop-i-test.false in let b = c.CELLS-i-end.ensures in let q = g.met.S.Kind.Machine.counted in let d = c.requires.counted in omega arith)
