@@ -4,5 +4,5 @@ use Rattle.runner.specs.declared.records.Record.{Record}
 use Rattle.runner.specs.declared.records.Records.{Records}
 use Rattle.runner.specs.Following.{Follows}
 
-pub follows : (script : List ℕ) (s : Records) (r : Record) (t : Records) → s.script.bytes.now ≡ script → Follows s.script.bytes.now s r t → Follows script s r t
-follows script s r t same f = subst (λ b. Follows b s r t) same f
+pub follows : {script : List ℕ} {s : Records} {r : Record} {t : Records} → s.script.bytes.now ≡ script → Follows s.script.bytes.now s r t → Follows script s r t
+follows {s = s} {r} {t} same f = subst (λ b. Follows b s r t) same f

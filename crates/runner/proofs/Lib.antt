@@ -1,8 +1,8 @@
 mod Bounds
 mod CellLoops
+mod Faults
 mod Following
 mod Reporting
-mod RoomLeft
 mod Seeking
 mod StepBounds
 mod StepLoop

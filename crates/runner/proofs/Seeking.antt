@@ -61,7 +61,7 @@ module _ (script : List ℕ) (at : ℕ) (w : Seeking script at) where
       go (suc f) s = sym (s ∙ ap (λ b. cond b Tally (kind_in (kind_from script f) (step_at (drop at script) at))) (le-leb (length script) at le))
 
 -- The same of a script's records: the next of them fixes a kind, or the search goes on behind it.
-module _ (script : List ℕ) (s : Records) (r : Record) (t : Records) (w : Seeking script s.at) (f : Follows script s r t) where
+module _ {script : List ℕ} {s : Records} {r : Record} {t : Records} (w : Seeking script s.at) (f : Follows script s r t) where
   pub record_found : (k : MachineKind) → Some k ≡ fixed_by r.read → k ≡ kind_of_script script
   record_found k e = seeking_found script s.at w f.left r.read f.read k e
 

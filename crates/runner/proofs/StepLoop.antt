@@ -42,8 +42,8 @@ whole_run : (K : Kind) (script : List ℕ) (room : ℕ) → runs K script room �
 unfolding runs
 whole_run K script room = refl
 
-pub going_start : (K : Kind) (script : List ℕ) (t : Trace) (at n : ℕ) (l : Line) (held : ℕ → List ℕ) → at ≡ 0 → n ≡ 0 → (after K []).line ≡ l → ((m : ℕ) → m < 16 → held m ≡ K.starting) → Going K script t t at n l held
-going_start K script t at n l held first none is fresh =
+pub going_start : {K : Kind} {script : List ℕ} {t : Trace} {at n : ℕ} {l : Line} {held : ℕ → List ℕ} → at ≡ 0 → n ≡ 0 → (after K []).line ≡ l → ((m : ℕ) → m < 16 → held m ≡ K.starting) → Going K script t t at n l held
+going_start {K} {script} {t} {at} {n} {l} {held} first none is fresh =
     record {
       calls = [];
       fuel = suc (length script);
@@ -54,7 +54,7 @@ going_start K script t at n l held first none is fresh =
     }
 
 -- The record r comes next, and there is room for its record in the trace or not.
-module _ (K : Kind) (script : List ℕ) (t₀ t : Trace) (s : Records) (r : Record) (u : Records) (l : Line) (held : ℕ → List ℕ) (w : Going K script t₀ t s.at s.number l held) (f : Follows script s r u) where
+module _ {K : Kind} {script : List ℕ} {t₀ t : Trace} {s : Records} {r : Record} {u : Records} {l : Line} {held : ℕ → List ℕ} (w : Going K script t₀ t s.at s.number l held) (f : Follows script s r u) where
   in_turn : cond (ltb (room_of t) 48) (Err (fault_as TraceFull r.number r.at)) (in_record r.number r.read) ≡ next_step script (room_of t) (suc s.number) s.at
   in_turn = λ i. cond (ltb (room_of t) 48) (Err (fault_as TraceFull (f.number i) (f.at i))) (in_record (f.number i) (f.read i))
 
@@ -76,7 +76,7 @@ module _ (K : Kind) (script : List ℕ) (t₀ t : Trace) (s : Records) (r : Reco
       wrote_faulty (runs K script (room_of t₀)) w.calls e t₀ t
       (subst (λ z. Sofar (runs K script (room_of t₀)) (steps (runs_from K script next.fuel) K (room_of t) w.calls (suc s.number) z) t₀ t) (sym (h ∙ in_turn)) next.sofar)
 
-  module _ (x : StepRead) (short : length script ≤ 65536) (counted : s.number ≤ s.at) (is : Ok x ≡ cond (ltb (room_of t) 48) (Err (fault_as TraceFull r.number r.at)) (in_record r.number r.read)) (a : Answered Answer) (l' : Line) (held' : ℕ → List ℕ) (t' : Trace) (asked : AskedAll K l x.step.call held a l' held') (adds : Adds t (step_record r.number x.step.call a) t') (time : (k : ℕ) → shown_time a ≡ Some k → k < 2 ^ 64) where
+  module _ {x : StepRead} (short : length script ≤ 65536) (counted : s.number ≤ s.at) (is : Ok x ≡ cond (ltb (room_of t) 48) (Err (fault_as TraceFull r.number r.at)) (in_record r.number r.read)) {a : Answered Answer} {l' : Line} {held' : ℕ → List ℕ} {t' : Trace} (asked : AskedAll K l x.step.call held a l' held') (adds : Adds t (step_record r.number x.step.call a) t') (time : (k : ℕ) → shown_time a ≡ Some k → k < 2 ^ 64) where
     answers : answer_to K w.calls x.step.call ≡ a
     answers = ap (λ z. answer_of (step K z x.step.call).event) w.line ∙ asked.answer
 
@@ -121,7 +121,7 @@ module _ (K : Kind) (script : List ℕ) (t₀ t : Trace) (s : Records) (r : Reco
         }))
 
 -- The script is read to its last byte.
-module _ (K : Kind) (script : List ℕ) (t₀ t : Trace) (at n : ℕ) (l : Line) (held : ℕ → List ℕ) (w : Going K script t₀ t at n l held) where
+module _ {K : Kind} {script : List ℕ} {t₀ t : Trace} {at n : ℕ} {l : Line} {held : ℕ → List ℕ} (w : Going K script t₀ t at n l held) where
   same_cells : (m k : ℕ) → m + k ≤ 16 → cell_records (after K w.calls).cells m k ≡ cell_records held m k
   same_cells m zero le = refl
   same_cells m (suc k) le = λ i. (station_records m 0 (w.cells m (omega arith) i)) ++ same_cells (suc m) k (omega arith) i
@@ -141,8 +141,8 @@ module _ (K : Kind) (script : List ℕ) (t₀ t : Trace) (at n : ℕ) (l : Line)
           subst (λ rs. Sofar (runs K script (room_of t₀)) (writes_all w.calls (fault_as TraceFull 0 (length script)) (room_of t) rs) t₀ t) same
           (subst (λ b. Sofar (runs K script (room_of t₀)) (cond b (finish K script (room_of t) w.calls) (steps (runs_from K script f) K (room_of t) w.calls (suc n) (next_step script (room_of t) (suc n) at))) t₀ t) (le-leb (length script) at le) s)
 
-  pub going_done : length script ≤ at → at ≤ length script → (t' : Trace) (r : Result (Unit {0}) Fault) → ((cs : List Call) → Wrote (writes_all cs (fault_as TraceFull 0 (length script)) (room_of t) (cell_records held 0 (member_count l))) t t' r) → Wrote (runs K script (room_of t₀)) t₀ t' r
-  going_done le within t' r wrote =
+  pub going_done : length script ≤ at → at ≤ length script → {t' : Trace} {r : Result (Unit {0}) Fault} → ((cs : List Call) → Wrote (writes_all cs (fault_as TraceFull 0 (length script)) (room_of t) (cell_records held 0 (member_count l))) t t' r) → Wrote (runs K script (room_of t₀)) t₀ t' r
+  going_done le within {t'} {r} wrote =
       wrote_after (runs K script (room_of t₀)) (writes_all w.calls (fault_as TraceFull 0 (length script)) (room_of t) (cell_records held 0 (member_count l))) t₀ t t' r (finished le within) (wrote w.calls)
 
   pub going_few : member_count l ≤ 16

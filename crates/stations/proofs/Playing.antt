@@ -34,7 +34,7 @@ full : (before done : List (Outcome Answer)) (a : Outcome Answer) → length bef
 full before done a l =
     ap (λ xs. take (length before) done ++ xs) (drop_all (length done) before l ∙ sym (drop_all (length done + 1) before (omega arith))) ∙ ap (λ xs. xs ++ drop (length done + 1) before) (sym (take-append-le (length before) done (a ∷ []) l))
 
-module _ (K : Kind) (cs : List Call) (c : Call) (before now : List (Outcome Answer)) (l : Line) (held : ℕ → List ℕ) (r : Outcome Answer) (l' : Line) (held' : ℕ → List ℕ) (s : SoFar K cs before now l held) (a : AskedAll K l c held r l' held') where
+module _ {K : Kind} {cs : List Call} {c : Call} {before now : List (Outcome Answer)} {l : Line} {held : ℕ → List ℕ} {r : Outcome Answer} {l' : Line} {held' : ℕ → List ℕ} (s : SoFar K cs before now l held) (a : AskedAll K l c held r l' held') where
   turned_round : reverse (cs ++ c ∷ []) ≡ c ∷ reverse cs
   turned_round = reverse-append cs (c ∷ [])
 
@@ -74,8 +74,8 @@ module _ (K : Kind) (cs : List Call) (c : Call) (before now : List (Outcome Answ
         answers = e ∙ (ap (λ xs. take (length before) xs ++ drop (length (answers_to K cs) + 1) before) (sym new_answers) ∙ ap (λ n. take (length before) (answers_to K (cs ++ c ∷ [])) ++ drop n before) (sym more_length));
       }
 
-  pub one_more_lem : (i : ℕ) → i ≡ length cs → i < length before → SoFar K (cs ++ c ∷ []) before (set now i r) l' held'
-  one_more_lem i is room =
+  pub one_more : (i : ℕ) → i ≡ length cs → i < length before → SoFar K (cs ++ c ∷ []) before (set now i r) l' held'
+  one_more i is room =
       new_written (set now i r) (ap (λ n. set now n r) at ∙ (ap (λ xs. set xs (length (answers_to K cs)) r) now_done ∙ written before (answers_to K cs) r (subst (λ n. n < length before) at room)))
     where
       at : i ≡ length (answers_to K cs)
@@ -85,6 +85,6 @@ module _ (K : Kind) (cs : List Call) (c : Call) (before now : List (Outcome Answ
   no_room i is full-up = new_written now (now_done ∙ full before (answers_to K cs) r (subst (λ n. length before ≤ n) (is ∙ sym s.count) full-up))
 
 -- All calls are made.
-pub all_made : (K : Kind) → Laws K → (cs : List Call) (before now : List (Outcome Answer)) (l : Line) (held : ℕ → List ℕ) → SoFar K cs before now l held → Played K cs before now l held
-all_made K L cs before now l held s =
+pub all_made : {K : Kind} {cs : List Call} {before now : List (Outcome Answer)} {l : Line} {held : ℕ → List ℕ} → Laws K → SoFar K cs before now l held → Played K cs before now l held
+all_made {K} {cs} L s =
     record { ordered = ordered_always K L (reverse cs); line = s.line; cells = s.cells; answers = s.answers }

@@ -1,9 +1,9 @@
-use Rattle.std.proofs.Common.{Err, sym, ap, ◌∙◌, subst}
-use Rattle.std.proofs.lemmas.Result.{err_from_is_err_and}
+use Rattle.std.proofs.Common.{sym, subst}
 use Rattle.script.specs.declared.faults.Cause.TheVariants.{TraceFull}
 use Rattle.runner.specs.Runs.{fault_as, writes_all}
 use Rattle.runner.specs.Cells.{cell_records}
 use Rattle.runner.specs.Writing.{Wrote, room_of}
+use Rattle.runner.proofs.Faults.{fault_is}
 use Rattle.runner.proofs.CellLoops.{member_first, station_written, station_full, stations_end}
 use Rattle.runner.proofs.cells.write_cells.Goals as goal
 
@@ -12,8 +12,7 @@ loop-member-init g c = member_first (fault_as TraceFull 0 c.args.end) (g.S.Stati
 
 pub returns-in_err-write_station : goal.returns-in_err-write_station
 returns-in_err-write_station g c cs =
-    let p = err_from_is_err_and c.from_residual.result c.from_residual.ensures.1 in
-    subst (Wrote (writes_all cs (fault_as TraceFull 0 c.args.end) (room_of c.args.trace.now) (cell_records (g.S.Stations.held c.args.stations.now) 0 c.args.members)) c.args.trace.now c.write_station.new.trace) (sym (p.1 ∙ ap Err p.2))
+    subst (Wrote (writes_all cs (fault_as TraceFull 0 c.args.end) (room_of c.args.trace.now) (cell_records (g.S.Stations.held c.args.stations.now) 0 c.args.members)) c.args.trace.now c.write_station.new.trace) (sym (fault_is c.from_residual.ensures.1))
     (station_full (fault_as TraceFull 0 c.args.end) (g.S.Stations.held c.args.stations.now) c.args.members c.args.trace.now c.loop-member.trace c.write_station.new.trace c.loop-member.member c.loop-member.invariant c.loop-member-test.true c.in_err-write_station.field-0.0 c.in_err-write_station.ensures cs)
 
 pub loop-member-preserved : goal.loop-member-preserved

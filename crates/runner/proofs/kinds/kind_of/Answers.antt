@@ -15,14 +15,14 @@ loop-record-init c =
 
 pub returns-in-Some-fixed_kind : goal.returns-in-Some-fixed_kind
 returns-in-Some-fixed_kind c =
-    record_found c.args.script.bytes.now c.loop-record.record-iterator c.in-Some.record c.next.new.self c.loop-record.invariant.seeking (follows _ _ _ _ c.loop-record.invariant.same c.in-Some.ensures.steps) c.in-Some-fixed_kind.kind (sym c.in-Some-fixed_kind.is ∙ c.fixed_kind.ensures)
+    record_found c.loop-record.invariant.seeking (follows c.loop-record.invariant.same c.in-Some.ensures.steps) c.in-Some-fixed_kind.kind (sym c.in-Some-fixed_kind.is ∙ c.fixed_kind.ensures)
 
 pub loop-record-preserved : goal.loop-record-preserved
 loop-record-preserved c =
-    let f = follows c.args.script.bytes.now c.loop-record.record-iterator c.in-Some.record c.next.new.self c.loop-record.invariant.same c.in-Some.ensures.steps in
+    let f = follows c.loop-record.invariant.same c.in-Some.ensures.steps in
     record {
       can = tt;
       finite = tt;
       same = f.same;
-      seeking = record_passed c.args.script.bytes.now c.loop-record.record-iterator c.in-Some.record c.next.new.self c.loop-record.invariant.seeking f (sym c.in_default.is ∙ c.fixed_kind.ensures);
+      seeking = record_passed c.loop-record.invariant.seeking f (sym c.in_default.is ∙ c.fixed_kind.ensures);
     }
