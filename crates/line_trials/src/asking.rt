@@ -19,7 +19,7 @@ fn ask_open(rt: HostRuntime) {
             },
             &mut station,
         ),
-        Answer::Refused(Refusal::Closed)
+        Err(Refusal::Closed)
     );
     assert_eq!(rt;
         line.ask(
@@ -29,7 +29,7 @@ fn ask_open(rt: HostRuntime) {
             },
             &mut station,
         ),
-        Answer::Refused(Refusal::BadMemberCount)
+        Err(Refusal::BadMemberCount)
     );
     assert_eq!(rt;
         line.ask(
@@ -39,7 +39,7 @@ fn ask_open(rt: HostRuntime) {
             },
             &mut station,
         ),
-        Answer::Refused(Refusal::BadLastNumber)
+        Err(Refusal::BadLastNumber)
     );
     assert_eq!(rt;
         line.ask(
@@ -49,7 +49,7 @@ fn ask_open(rt: HostRuntime) {
             },
             &mut station,
         ),
-        Answer::Opened
+        Ok(Answer::Opened)
     );
     assert_eq!(rt;
         line.ask(
@@ -59,7 +59,7 @@ fn ask_open(rt: HostRuntime) {
             },
             &mut station,
         ),
-        Answer::Refused(Refusal::AlreadyOpen)
+        Err(Refusal::AlreadyOpen)
     );
     assert_eq!(rt; line.send(1, 0b11, mark()), Ok(1));
     assert_eq!(rt; line.send(1, 0b11, mark()), Err(Refusal::NumbersUsedUp));
@@ -78,7 +78,7 @@ fn ask_send(rt: HostRuntime) -> Result<(), Fail> {
             },
             &mut station,
         ),
-        Answer::Refused(Refusal::NoMember)
+        Err(Refusal::NoMember)
     );
     assert_eq!(rt;
         line.ask(
@@ -89,7 +89,7 @@ fn ask_send(rt: HostRuntime) -> Result<(), Fail> {
             },
             &mut station,
         ),
-        Answer::Refused(Refusal::BadSet)
+        Err(Refusal::BadSet)
     );
     assert_eq!(rt;
         line.ask(
@@ -100,7 +100,7 @@ fn ask_send(rt: HostRuntime) -> Result<(), Fail> {
             },
             &mut station,
         ),
-        Answer::Issued(1)
+        Ok(Answer::Issued(1))
     );
     assert_eq!(rt;
         line.ask(
@@ -111,7 +111,7 @@ fn ask_send(rt: HostRuntime) -> Result<(), Fail> {
             },
             &mut station,
         ),
-        Answer::Issued(2)
+        Ok(Answer::Issued(2))
     );
     assert_eq!(rt;
         line.ask(
@@ -122,7 +122,7 @@ fn ask_send(rt: HostRuntime) -> Result<(), Fail> {
             },
             &mut station,
         ),
-        Answer::Refused(Refusal::NumbersUsedUp)
+        Err(Refusal::NumbersUsedUp)
     );
     assert_eq!(rt; line.hear(0, 1), Err(Refusal::NoDestination));
     assert_eq!(rt; line.hear(2, 1), Ok(0));
@@ -145,7 +145,7 @@ fn ask_hear(rt: HostRuntime) -> Result<(), Fail> {
             },
             &mut station,
         ),
-        Answer::Refused(Refusal::NoMember)
+        Err(Refusal::NoMember)
     );
     assert_eq!(rt;
         line.ask(
@@ -155,7 +155,7 @@ fn ask_hear(rt: HostRuntime) -> Result<(), Fail> {
             },
             &mut station,
         ),
-        Answer::Refused(Refusal::NoCommand)
+        Err(Refusal::NoCommand)
     );
     assert_eq!(rt;
         line.ask(
@@ -165,7 +165,7 @@ fn ask_hear(rt: HostRuntime) -> Result<(), Fail> {
             },
             &mut station,
         ),
-        Answer::Refused(Refusal::NoDestination)
+        Err(Refusal::NoDestination)
     );
     assert_eq!(rt;
         line.ask(
@@ -175,7 +175,7 @@ fn ask_hear(rt: HostRuntime) -> Result<(), Fail> {
             },
             &mut station,
         ),
-        Answer::Proposed(0)
+        Ok(Answer::Proposed(0))
     );
     assert_eq!(rt;
         line.ask(
@@ -185,7 +185,7 @@ fn ask_hear(rt: HostRuntime) -> Result<(), Fail> {
             },
             &mut station,
         ),
-        Answer::Proposed(1)
+        Ok(Answer::Proposed(1))
     );
     assert_eq!(rt;
         line.ask(
@@ -195,7 +195,7 @@ fn ask_hear(rt: HostRuntime) -> Result<(), Fail> {
             },
             &mut station,
         ),
-        Answer::Refused(Refusal::AlreadyDone)
+        Err(Refusal::AlreadyDone)
     );
     Ok(())
 }
@@ -213,7 +213,7 @@ fn ask_gather(rt: HostRuntime) -> Result<(), Fail> {
             },
             &mut station,
         ),
-        Answer::Refused(Refusal::TooEarly)
+        Err(Refusal::TooEarly)
     );
     assert_eq!(rt; line.hear(1, 1), Ok(0));
     assert_eq!(rt;
@@ -224,7 +224,7 @@ fn ask_gather(rt: HostRuntime) -> Result<(), Fail> {
             },
             &mut station,
         ),
-        Answer::Fixed(None)
+        Ok(Answer::Fixed(None))
     );
     assert_eq!(rt;
         line.ask(
@@ -234,7 +234,7 @@ fn ask_gather(rt: HostRuntime) -> Result<(), Fail> {
             },
             &mut station,
         ),
-        Answer::Refused(Refusal::AlreadyDone)
+        Err(Refusal::AlreadyDone)
     );
     assert_eq!(rt; line.hear(0, 1), Ok(0));
     assert_eq!(rt;
@@ -245,7 +245,7 @@ fn ask_gather(rt: HostRuntime) -> Result<(), Fail> {
             },
             &mut station,
         ),
-        Answer::Fixed(Some(0))
+        Ok(Answer::Fixed(Some(0)))
     );
     assert_eq!(rt; line.settle(0, 1), Ok(0));
     Ok(())
@@ -265,7 +265,7 @@ fn ask_settle(rt: HostRuntime) -> Result<(), Fail> {
             },
             &mut station,
         ),
-        Answer::Refused(Refusal::TooEarly)
+        Err(Refusal::TooEarly)
     );
     assert_eq!(rt; take(&mut line, 1, 2), Ok(0));
     assert_eq!(rt; line.hear(1, 1), Ok(1));
@@ -278,7 +278,7 @@ fn ask_settle(rt: HostRuntime) -> Result<(), Fail> {
             },
             &mut station,
         ),
-        Answer::Clock(1)
+        Ok(Answer::Clock(1))
     );
     assert_eq!(rt;
         line.ask(
@@ -288,7 +288,7 @@ fn ask_settle(rt: HostRuntime) -> Result<(), Fail> {
             },
             &mut station,
         ),
-        Answer::Refused(Refusal::AlreadyDone)
+        Err(Refusal::AlreadyDone)
     );
     Ok(())
 }
@@ -303,17 +303,17 @@ fn ask_run(rt: HostRuntime) -> Result<(), Fail> {
     assert_eq!(rt; take(&mut line, 1, 1), Ok(0));
     assert_eq!(rt;
         line.ask(Call::Run { member: 1 }, &mut first),
-        Answer::Refused(Refusal::NothingReady)
+        Err(Refusal::NothingReady)
     );
     assert_eq!(rt; first.read(3), Some(0));
     assert_eq!(rt;
         line.ask(Call::Run { member: 0 }, &mut second),
-        Answer::Ran((0, 1))
+        Ok(Answer::Ran((0, 1)))
     );
     assert_eq!(rt; second.read(3), Some(5));
     assert_eq!(rt;
         line.ask(Call::Run { member: 1 }, &mut second),
-        Answer::Refused(Refusal::NothingReady)
+        Err(Refusal::NothingReady)
     );
     assert_eq!(rt; second.member(), 1);
     Ok(())
@@ -333,7 +333,7 @@ fn ask_moves_the_station_by_run_only(rt: HostRuntime) -> Result<(), Fail> {
             },
             &mut station,
         ),
-        Answer::Issued(1)
+        Ok(Answer::Issued(1))
     );
     assert_eq!(rt;
         line.ask(
@@ -343,7 +343,7 @@ fn ask_moves_the_station_by_run_only(rt: HostRuntime) -> Result<(), Fail> {
             },
             &mut station,
         ),
-        Answer::Proposed(0)
+        Ok(Answer::Proposed(0))
     );
     assert_eq!(rt;
         line.ask(
@@ -353,7 +353,7 @@ fn ask_moves_the_station_by_run_only(rt: HostRuntime) -> Result<(), Fail> {
             },
             &mut station,
         ),
-        Answer::Fixed(Some(0))
+        Ok(Answer::Fixed(Some(0)))
     );
     assert_eq!(rt;
         line.ask(
@@ -363,12 +363,12 @@ fn ask_moves_the_station_by_run_only(rt: HostRuntime) -> Result<(), Fail> {
             },
             &mut station,
         ),
-        Answer::Clock(0)
+        Ok(Answer::Clock(0))
     );
     assert_eq!(rt; station.read(2), Some(0));
     assert_eq!(rt;
         line.ask(Call::Run { member: 0 }, &mut station),
-        Answer::Ran((0, 1))
+        Ok(Answer::Ran((0, 1)))
     );
     assert_eq!(rt; station.read(2), Some(5));
     Ok(())
