@@ -70,32 +70,21 @@ impl<M: Machine> Drive<M> {
         }
     }
 
-    /// The station's member hears the batch. Each member begins at its own share and goes round, so no two of them
-    /// hear the commands in one order.
-    fn hear_batch(&mut self, station: &mut Station<M>, before: u64) {
+    /// Makes a call of the station's member for each command of the batch, from the one at the place `first` on and then
+    /// round from the start.
+    fn step_batch<F: Fn(u8, u64) -> Call>(
+        &mut self,
+        station: &mut Station<M>,
+        before: u64,
+        first: u64,
+        call: F,
+    )
+        requires { F.IsAlwaysCallable call }
+    {
         let member = station.member();
-        let first = SHARE * u64::from(member);
-        for turn in first..first + BATCH {
-            let number = before.wrapping_add(1 + turn % BATCH);
-            self.ask(Call::Hear { member, number }, station);
-        }
-    }
-
-    /// The proposals of the station's member are gathered.
-    fn gather_batch(&mut self, station: &mut Station<M>, before: u64) {
-        let member = station.member();
-        for place in 0..BATCH {
-            let number = before.wrapping_add(1 + place);
-            self.ask(Call::Gather { member, number }, station);
-        }
-    }
-
-    /// The final timestamps reach the station's member.
-    fn settle_batch(&mut self, station: &mut Station<M>, before: u64) {
-        let member = station.member();
-        for place in 0..BATCH {
-            let number = before.wrapping_add(1 + place);
-            self.ask(Call::Settle { member, number }, station);
+        for turn in 0..BATCH {
+            let place = first.wrapping_add(turn) % BATCH;
+            self.ask(call(member, before.wrapping_add(1 + place)), station);
         }
     }
 
@@ -121,14 +110,25 @@ impl<M: Machine> Drive<M> {
     fn pass_batch(&mut self, stations: &mut [Station<M>]) {
         let before = self.counts.greatest_number;
         self.send_batch(stations);
+        // Each member begins at its own share, so no two of them hear the commands in one order.
         for station in stations.iter_mut() {
-            self.hear_batch(station, before);
+            let first = SHARE * u64::from(station.member());
+            self.step_batch(station, before, first, |member, number| Call::Hear {
+                member,
+                number,
+            });
         }
         for station in stations.iter_mut() {
-            self.gather_batch(station, before);
+            self.step_batch(station, before, 0, |member, number| Call::Gather {
+                member,
+                number,
+            });
         }
         for station in stations.iter_mut() {
-            self.settle_batch(station, before);
+            self.step_batch(station, before, 0, |member, number| Call::Settle {
+                member,
+                number,
+            });
         }
         for station in stations.iter_mut() {
             self.run_batch(station);

@@ -5,7 +5,6 @@ mod counts;
 mod drive;
 mod load;
 
-use counts::Counts;
 use drive::{Drive, MEMBERS};
 use line::state::Station;
 use load::BATCH;
@@ -20,24 +19,6 @@ const TALLY_BATCHES: u64 = 31_250;
 /// How many batches go through the line of axis banks: a hundred thousand commands.
 const BANK_BATCHES: u64 = 3_125;
 
-/// Prints what the line has answered.
-fn show_counts(rt: &HostRuntime, counts: &Counts) -> io::Result<()> {
-    println!(rt; "     sends    {:>8}", counts.sends)?;
-    println!(rt; "     hears    {:>8}", counts.hears)?;
-    println!(rt;
-        "     gathers  {:>8}, final at {}",
-        counts.gathers, counts.finals
-    )?;
-    println!(rt; "     settles  {:>8}", counts.settles)?;
-    println!(rt; "     runs     {:>8}", counts.runs)?;
-    print!(rt; "     refused: {} table full", counts.table_full)?;
-    print!(rt; ", {} numbers used up", counts.used_up)?;
-    print!(rt; ", {} nothing ready", counts.nothing_ready)?;
-    println!(rt; ", {} others", counts.other_refusals)?;
-    println!(rt; "     greatest issue number {}", counts.greatest_number)?;
-    println!(rt; "     greatest clock {}", counts.greatest_clock)
-}
-
 /// Prints the cells of a station.
 fn show_cells<M: Machine>(rt: &HostRuntime, station: &Station<M>) -> io::Result<()> {
     print!(rt; "     cells of member {}:", station.member())?;
@@ -47,14 +28,6 @@ fn show_cells<M: Machine>(rt: &HostRuntime, station: &Station<M>) -> io::Result<
         }
     }
     rt.println("")
-}
-
-/// Prints the cells of each station.
-fn show_all_cells<M: Machine>(rt: &HostRuntime, stations: &[Station<M>]) -> io::Result<()> {
-    for station in stations {
-        show_cells(rt, station)?;
-    }
-    Ok(())
 }
 
 /// Takes the batches through a line of four members, and prints what was counted. With b batches:
@@ -81,23 +54,16 @@ fn soak<M: Machine>(
     let mut drive = Drive::new();
     drive.open(stations, batches.wrapping_mul(BATCH));
     drive.pass_batches(stations, batches);
-    show_counts(rt, &drive.counts)?;
-    show_all_cells(rt, stations)
+    println!(rt; "{}", drive.counts)?;
+    for station in stations.iter() {
+        show_cells(rt, station)?;
+    }
+    Ok(())
 }
 
 fn main(rt: HostRuntime) -> io::Result<()> {
-    let mut tallies: [Station<Tally>; 4] = [
-        Station::new(0),
-        Station::new(1),
-        Station::new(2),
-        Station::new(3),
-    ];
+    let mut tallies: [Station<Tally>; 4] = [0, 1, 2, 3].map(Station::new);
     soak(&rt, "Tally", &mut tallies, TALLY_BATCHES)?;
-    let mut banks: [Station<AxisBank>; 4] = [
-        Station::new(0),
-        Station::new(1),
-        Station::new(2),
-        Station::new(3),
-    ];
+    let mut banks: [Station<AxisBank>; 4] = [0, 1, 2, 3].map(Station::new);
     soak(&rt, "Axis bank", &mut banks, BANK_BATCHES)
 }
