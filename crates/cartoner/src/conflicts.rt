@@ -1,5 +1,6 @@
 //! Which commands a kind of machine has to run in one order.
-ghost use Rattle.std.specs.Prelude.{◌≡◌, if◌then◌else◌};
+ghost use Rattle.std.specs.Prelude.{◌≡◌, if◌then◌else◌, count_by};
+ghost use Rattle.std.specs.List.{zip};
 ghost use Rattle.cartoner.specs.Neighbours.{neighbours};
 
 use machine::command::Command;
@@ -12,15 +13,23 @@ pub(crate) fn sign<M: Machine>(a: Command, b: Command) -> char
     if M::conflict(a, b) { 'x' } else { '.' }
 }
 
+/// How many of the commands conflict with the one at their place among the others.
+fn pairs_in_conflict<M: Machine>(commands: &[Command], others: &[Command]) -> usize
+    ensures { result ≡ count_by (λ p. M.kind.conflict p.0 p.1) (zip commands.now others.now) }
+{
+    commands
+        .iter()
+        .zip(others)
+        .filter(|(a, b)| M::conflict(**a, **b))
+        .count()
+}
+
 /// How many neighbouring pairs of the commands conflict.
 pub(crate) fn neighbours_in_conflict<M: Machine>(commands: &[Command]) -> usize
     ensures { result ≡ neighbours M.kind.conflict commands.now }
 {
-    let mut count = 0;
-    for pair in commands.windows(2) {
-        if M::conflict(pair[0], pair[1]) {
-            count += 1;
-        }
+    match commands.split_first() {
+        Some((_, others)) => pairs_in_conflict::<M>(commands, others),
+        None => 0,
     }
-    count
 }

@@ -27,6 +27,7 @@ const CARTON_OPEN: u32 = 7001;
 /// The code of a carton that is shut.
 const CARTON_SHUT: u32 = 7002;
 
+// These four stand in place of struct literals so that the cycle below reads as one command a line, and not four lines.
 fn set(axis: u8, value: u32) -> Command
     ensures { result ≡ Command.Set axis value }
 {

@@ -3,26 +3,24 @@
 
 ghost use Rattle.std.specs.Prelude.{◌<◌};
 
-mod answers;
 mod conflicts;
 mod cycle;
 mod panel;
-mod passage;
 mod reading;
+mod refused;
+mod traffic;
 mod words;
 
-use answers::ran;
 use conflicts::{neighbours_in_conflict, sign};
 use cycle::carton_cycle;
-use line::state::{Line, Station};
+use line::state::Station;
 use machine::axis_bank::AxisBank;
 use machine::command::Command;
 use machine::recorder::Recorder;
 use machine::tally::Tally;
-use ordering::calls::Call;
 use panel::Panel;
-use passage::{Passage, gather_all, hear_all, open, send_all};
 use std::io;
+use traffic::{Member, Passage, Traffic};
 use words::{InWords, Stamp};
 
 /// The size of the bursts in which the commands reach member 0: as they are issued.
@@ -47,8 +45,8 @@ fn show_conflicts<M: Panel>(rt: &HostRuntime, commands: &[Command]) -> io::Resul
     let name = M::NAME;
     println!(rt; "\n{name}: x where two commands conflict, and so have to run in one order")?;
     print_heading(rt)?;
-    for (i, _) in commands.iter().enumerate() {
-        print!(rt; "{:>3}", i + 1)?;
+    for number in 1..=commands.len() {
+        print!(rt; "{number:>3}")?;
     }
     rt.println("")?;
     for (i, row) in commands.iter().enumerate() {
@@ -88,39 +86,15 @@ fn show_passages(rt: &HostRuntime, passages: &[Passage]) -> io::Result<()> {
     Ok(())
 }
 
-/// Runs what is ready at the station, and prints the pair of each command.
-fn show_ready<M: Panel>(
-    rt: &HostRuntime,
-    line: &mut Line<M>,
-    station: &mut Station<M>,
-    count: usize,
-) -> anyhow::Result<()> {
-    let member = station.member();
-    for _ in 0..count {
-        let Some((timestamp, number)) = ran(line.ask(Call::Run { member }, station))? else {
-            return Ok(());
-        };
-        print!(rt; " ({timestamp},{number})")?;
-    }
-    Ok(())
-}
-
-/// Settles the commands at the station in the order in which it heard them, and runs each as soon as it is ready.
+/// Runs the commands at the member, and prints the pair of each.
 fn show_run<M: Panel>(
     rt: &HostRuntime,
-    line: &mut Line<M>,
-    station: &mut Station<M>,
-    passages: &[Passage],
-    burst: usize,
-) -> anyhow::Result<()>
-    requires { 0 < burst }
-{
-    print!(rt; "     member {} ", station.member())?;
-    for together in passages.chunks(burst) {
-        for passage in together.iter().rev() {
-            passage.settle(line, station)?;
-            show_ready(rt, line, station, passages.len())?;
-        }
+    traffic: &mut Traffic<M>,
+    member: &mut Member<M>,
+) -> anyhow::Result<()> {
+    print!(rt; "     member {} ", member.station.member())?;
+    for (timestamp, number) in traffic.run_all(rt.alloc(), member)? {
+        print!(rt; " ({timestamp},{number})")?;
     }
     rt.println("")?;
     Ok(())
@@ -144,20 +118,19 @@ fn show_readings<M: Panel>(
 /// Takes the commands through a line of two stations, and prints how each step went.
 fn show_line<M: Panel>(rt: &HostRuntime, commands: &[Command]) -> anyhow::Result<()> {
     println!(rt; "\n{}: {}", M::NAME, M::MEANING)?;
-    let mut line = Line::<M>::new();
-    let mut first = Station::<M>::new(0);
-    let mut second = Station::<M>::new(1);
-    open(&mut line, &mut first)?;
-    let mut passages = send_all(rt.alloc(), &mut line, &mut first, commands)?;
-    hear_all(&mut line, &mut first, &mut passages, ONE_BY_ONE)?;
-    hear_all(&mut line, &mut second, &mut passages, BY_THREES)?;
-    gather_all(&mut line, &mut first, &mut passages)?;
-    gather_all(&mut line, &mut second, &mut passages)?;
-    show_passages(rt, &passages)?;
+    let mut traffic = Traffic::<M>::open(rt.alloc())?;
+    let mut first = Member::new(0, ONE_BY_ONE);
+    let mut second = Member::new(1, BY_THREES);
+    traffic.send_all(commands)?;
+    traffic.hear_all(&first)?;
+    traffic.hear_all(&second)?;
+    traffic.gather_all(&first)?;
+    traffic.gather_all(&second)?;
+    show_passages(rt, &traffic.passages)?;
     println!(rt; "Commands in the order in which each member ran them, as (final,#):")?;
-    show_run(rt, &mut line, &mut first, &passages, ONE_BY_ONE)?;
-    show_run(rt, &mut line, &mut second, &passages, BY_THREES)?;
-    show_readings(rt, &first, &second)?;
+    show_run(rt, &mut traffic, &mut first)?;
+    show_run(rt, &mut traffic, &mut second)?;
+    show_readings(rt, &first.station, &second.station)?;
     Ok(())
 }
 

@@ -1,10 +1,11 @@
 //! How a person reads the cells of each kind of machine.
 ghost use Rattle.std.specs.Prelude.{◌<◌};
 
-use crate::reading::{Entry, cell};
+use crate::reading::{Entry, NoCommand, cell};
 use crate::words::InWords;
 use line::state::Station;
 use machine::axis_bank::AxisBank;
+use machine::command::Command;
 use machine::kind::Machine;
 use machine::recorder::Recorder;
 use machine::tally::Tally;
@@ -21,8 +22,10 @@ pub(crate) trait Panel: Machine + Drop {
     /// What the readings are called.
     const READINGS: &'static [&'static str];
 
-    /// The reading of a station at the row.
-    fn reading(heap: Global, station: &Station<Self>, row: usize) -> Result<String, AllocError>;
+    /// The reading of a station at the row: the cell there, where the kind says no other.
+    fn reading(heap: Global, station: &Station<Self>, row: usize) -> Result<String, AllocError> {
+        cell(station, row).to_string(heap)
+    }
 }
 
 impl Panel for AxisBank {
@@ -33,10 +36,6 @@ impl Panel for AxisBank {
     const READINGS: &'static [&'static str] = &[
         "film", "flap", "pusher", "axis 3", "axis 4", "axis 5", "axis 6", "axis 7",
     ];
-
-    fn reading(heap: Global, station: &Station<Self>, row: usize) -> Result<String, AllocError> {
-        cell(station, row).to_string(heap)
-    }
 }
 
 /// How many commands a recorder keeps.
@@ -46,9 +45,9 @@ const KEPT: usize = 8;
 fn kept<M: Machine>(heap: Global, recorder: &Station<M>, place: usize) -> Result<String, AllocError>
     requires { place < 8 }
 {
-    match Entry::at(recorder, place).command() {
-        Some(command) => InWords(command).to_string(heap),
-        None => "none".to_string(heap),
+    match Command::try_from(Entry::at(recorder, place)) {
+        Ok(command) => InWords(command).to_string(heap),
+        Err(NoCommand) => "none".to_string(heap),
     }
 }
 
@@ -83,8 +82,4 @@ impl Panel for Tally {
     const MEANING: &'static str = "how many commands of each class ran";
 
     const READINGS: &'static [&'static str] = &["sets", "shifts", "couples", "marks"];
-
-    fn reading(heap: Global, station: &Station<Self>, row: usize) -> Result<String, AllocError> {
-        cell(station, row).to_string(heap)
-    }
 }

@@ -1,5 +1,5 @@
 //! What a station's cells say.
-ghost use Rattle.std.specs.Prelude.{◌≡◌, ◌+◌, ◌*◌, ◌<◌, [], ◌∷◌, IfSome, Some, slice_index};
+ghost use Rattle.std.specs.Prelude.{◌≡◌, ◌+◌, ◌*◌, ◌<◌, [], ◌∷◌, IfOk, Ok, slice_index};
 ghost use Rattle.cartoner.specs.Holding.{ByteAxes};
 ghost use Rattle.machine.specs.Numbers.{numbers};
 
@@ -36,26 +36,34 @@ impl Entry {
             second: cell(recorder, 3 * place + 3),
         }
     }
+}
 
-    /// The command that has these numbers, if there is one.
-    pub(crate) fn command(self) -> Option<Command>
-        ensures sound { IfSome result (λ c. numbers c ≡ self.class ∷ self.first ∷ self.second ∷ []) }
-        ensures whole { (c : Command) → ByteAxes c → numbers c ≡ self.class ∷ self.first ∷ self.second ∷ [] → result ≡ Some c }
+/// Numbers that no command has.
+#[derive(Clone, Copy, Debug, PartialEq, Eq)]
+pub(crate) struct NoCommand;
+
+impl TryFrom<Entry> for Command {
+    type Error = NoCommand;
+
+    /// The command that has the entry's numbers, if there is one.
+    fn try_from(entry: Entry) -> Result<Self, NoCommand>
+        ensures sound { IfOk result (λ c. numbers c ≡ entry.class ∷ entry.first ∷ entry.second ∷ []) }
+        ensures whole { (c : Command) → ByteAxes c → numbers c ≡ entry.class ∷ entry.first ∷ entry.second ∷ [] → result ≡ Ok c }
     {
-        let first = u8::try_from(self.first);
-        let second = u8::try_from(self.second);
-        match (self.class, first, second) {
-            (1, Ok(axis), _) => Some(Command::Set {
+        let first = u8::try_from(entry.first);
+        let second = u8::try_from(entry.second);
+        match (entry.class, first, second) {
+            (1, Ok(axis), _) => Ok(Command::Set {
                 axis,
-                value: self.second,
+                value: entry.second,
             }),
-            (2, Ok(axis), _) => Some(Command::Shift {
+            (2, Ok(axis), _) => Ok(Command::Shift {
                 axis,
-                amount: self.second,
+                amount: entry.second,
             }),
-            (3, Ok(from), Ok(to)) => Some(Command::Couple { from, to }),
-            (4, _, Ok(0)) => Some(Command::Mark { code: self.first }),
-            _ => None,
+            (3, Ok(from), Ok(to)) => Ok(Command::Couple { from, to }),
+            (4, _, Ok(0)) => Ok(Command::Mark { code: entry.first }),
+            _ => Err(NoCommand),
         }
     }
 }

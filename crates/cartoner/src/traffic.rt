@@ -1,11 +1,11 @@
 //! The steps that take commands through a line of two members.
 ghost use Rattle.std.specs.Prelude.{◌<◌};
 
-use crate::answers::{Unexpected, fixed, issued, opened, proposed, settled};
+use crate::refused::Refused;
 use line::state::{Line, Station};
 use machine::command::Command;
 use machine::kind::Machine;
-use ordering::calls::Call;
+use ordering::calls::Refusal;
 use std::alloc::Global;
 
 /// How many members the line has.
@@ -17,6 +17,26 @@ const BOTH: u16 = 0b11;
 /// The greatest issue number of the line.
 const LAST_NUMBER: u64 = 1000;
 
+/// A member of the line: its station, and how many commands reach it together.
+#[derive(Drop)]
+pub(crate) struct Member<M> {
+    pub(crate) station: Station<M>,
+    burst: usize,
+    ghost some: { 0 < burst },
+}
+
+impl<M: Machine> Member<M> {
+    /// A member whose machine is freshly started.
+    pub(crate) fn new(member: u8, burst: usize) -> Self
+        requires { 0 < burst }
+    {
+        Member {
+            station: Station::new(member),
+            burst,
+        }
+    }
+}
+
 /// What the line has answered about one command.
 #[derive(Clone, Copy)]
 pub(crate) struct Passage {
@@ -27,144 +47,101 @@ pub(crate) struct Passage {
     pub(crate) timestamp: Option<u64>,
 }
 
-impl Passage {
-    /// Sends the command to both members.
-    fn send<M: Machine>(
-        line: &mut Line<M>,
-        station: &mut Station<M>,
-        sender: u8,
-        command: Command,
-    ) -> Result<Passage, Unexpected> {
-        let answer = line.ask(
-            Call::Send {
-                sender,
-                set: BOTH,
-                command,
-            },
-            station,
-        );
-        let number = issued(answer)?;
-        Ok(Passage {
-            command,
-            sender,
-            number,
-            proposals: [None; 2],
-            timestamp: None,
+/// A line, and what it has answered about each command.
+#[derive(Drop)]
+pub(crate) struct Traffic<M> {
+    line: Line<M>,
+    pub(crate) passages: Vec<Passage>,
+}
+
+/// Runs the earliest ready command at the station, if there is one.
+fn run_earliest<M: Machine>(
+    line: &mut Line<M>,
+    station: &mut Station<M>,
+) -> Result<Option<(u64, u64)>, Refused> {
+    match line.run(station) {
+        Ok(pair) => Ok(Some(pair)),
+        Err(Refusal::NothingReady) => Ok(None),
+        Err(refusal) => Err(refusal.into()),
+    }
+}
+
+impl<M: Machine> Traffic<M> {
+    /// An open line, and no command.
+    pub(crate) fn open(heap: Global) -> Result<Self, Refused> {
+        let mut line = Line::new();
+        line.open(MEMBERS, LAST_NUMBER)?;
+        Ok(Traffic {
+            line,
+            passages: Vec::new(heap),
         })
     }
 
-    /// The station's member hears the command.
-    fn hear<M: Machine>(
-        &mut self,
-        line: &mut Line<M>,
-        station: &mut Station<M>,
-    ) -> Result<(), Unexpected> {
-        let member = station.member();
-        let answer = line.ask(
-            Call::Hear {
-                member,
-                number: self.number,
-            },
-            station,
-        );
-        let proposal = proposed(answer)?;
-        if let Some(place) = self.proposals.get_mut(usize::from(member)) {
-            *place = Some(proposal);
+    /// Sends the commands to both members, from each of the two in turn.
+    pub(crate) fn send_all(&mut self, commands: &[Command]) -> anyhow::Result<()> {
+        for (turn, command) in commands.iter().enumerate() {
+            let sender = (turn % 2) as u8;
+            let number = self
+                .line
+                .send(sender, BOTH, *command)
+                .map_err(Refused::from)?;
+            self.passages.push(Passage {
+                command: *command,
+                sender,
+                number,
+                proposals: [None; 2],
+                timestamp: None,
+            })?;
         }
         Ok(())
     }
 
-    /// The proposal of the station's member is gathered.
-    fn gather<M: Machine>(
-        &mut self,
-        line: &mut Line<M>,
-        station: &mut Station<M>,
-    ) -> Result<(), Unexpected> {
-        let member = station.member();
-        let answer = line.ask(
-            Call::Gather {
-                member,
-                number: self.number,
-            },
-            station,
-        );
-        self.timestamp = fixed(answer)?;
+    /// The member hears the commands in its bursts, the newest of a burst first.
+    pub(crate) fn hear_all(&mut self, member: &Member<M>) -> Result<(), Refused> {
+        let Traffic { line, passages } = self;
+        let hearer = member.station.member();
+        for together in passages.chunks_mut(member.burst) {
+            for passage in together.iter_mut().rev() {
+                let proposal = line.hear(hearer, passage.number)?;
+                if let Some(place) = passage.proposals.get_mut(usize::from(hearer)) {
+                    *place = Some(proposal);
+                }
+            }
+        }
         Ok(())
     }
 
-    /// The final timestamp reaches the station's member.
-    pub(crate) fn settle<M: Machine>(
-        &self,
-        line: &mut Line<M>,
-        station: &mut Station<M>,
-    ) -> Result<u64, Unexpected> {
-        let member = station.member();
-        let answer = line.ask(
-            Call::Settle {
-                member,
-                number: self.number,
-            },
-            station,
-        );
-        settled(answer)
-    }
-}
-
-/// Opens the line for both members.
-pub(crate) fn open<M: Machine>(
-    line: &mut Line<M>,
-    station: &mut Station<M>,
-) -> Result<(), Unexpected> {
-    let answer = line.ask(
-        Call::Open {
-            members: MEMBERS,
-            last: LAST_NUMBER,
-        },
-        station,
-    );
-    opened(answer)
-}
-
-/// Sends the commands, the members in turn.
-pub(crate) fn send_all<M: Machine>(
-    heap: Global,
-    line: &mut Line<M>,
-    station: &mut Station<M>,
-    commands: &[Command],
-) -> anyhow::Result<Vec<Passage>> {
-    let mut passages = Vec::new(heap);
-    for (turn, command) in commands.iter().enumerate() {
-        let sender = if turn % 2 == 0 { 0 } else { 1 };
-        passages.push(Passage::send(line, station, sender, *command)?)?;
-    }
-    Ok(passages)
-}
-
-/// The station's member hears the commands in bursts, the newest of a burst first.
-pub(crate) fn hear_all<M: Machine>(
-    line: &mut Line<M>,
-    station: &mut Station<M>,
-    passages: &mut [Passage],
-    burst: usize,
-) -> Result<(), Unexpected>
-    requires { 0 < burst }
-{
-    for together in passages.chunks_mut(burst) {
-        for passage in together.iter_mut().rev() {
-            passage.hear(line, station)?;
+    /// The proposals of the member are gathered.
+    pub(crate) fn gather_all(&mut self, member: &Member<M>) -> Result<(), Refused> {
+        let Traffic { line, passages } = self;
+        let proposer = member.station.member();
+        for passage in passages.iter_mut() {
+            passage.timestamp = line.gather(proposer, passage.number)?;
         }
+        Ok(())
     }
-    Ok(())
-}
 
-/// The proposals of the station's member are gathered.
-pub(crate) fn gather_all<M: Machine>(
-    line: &mut Line<M>,
-    station: &mut Station<M>,
-    passages: &mut [Passage],
-) -> Result<(), Unexpected> {
-    for passage in passages {
-        passage.gather(line, station)?;
+    /// Settles the commands at the member in the order in which it heard them, and runs each as soon as it is ready;
+    /// answers the pair of each command that ran.
+    pub(crate) fn run_all(
+        &mut self,
+        heap: Global,
+        member: &mut Member<M>,
+    ) -> anyhow::Result<Vec<(u64, u64)>> {
+        let Traffic { line, passages } = self;
+        let mut ran = Vec::new(heap);
+        let runner = member.station.member();
+        for together in passages.chunks(member.burst) {
+            for passage in together.iter().rev() {
+                line.settle(runner, passage.number).map_err(Refused::from)?;
+                for _ in 0..passages.len() {
+                    let Some(pair) = run_earliest(line, &mut member.station)? else {
+                        break;
+                    };
+                    ran.push(pair)?;
+                }
+            }
+        }
+        Ok(ran)
     }
-    Ok(())
 }

@@ -1,6 +1,6 @@
 use Rattle.std.proofs.Common.{rules}
-use Rattle.cartoner.proofs.Cells.{cell_or}
+use Rattle.std.proofs.lemmas.Option.{unwrap_or-slice_get}
 use Rattle.cartoner.proofs.reading.cell.Goals as goal
 
 pub returns : goal.returns
-returns g c = search (rules, cell_or)
+returns g c = search (rules, unwrap_or-slice_get)
