@@ -86,9 +86,9 @@ mod tests {
             Command::Couple { from: 2, to: 6 },
             Command::Couple { from: 3, to: 3 },
         ]);
-        assert_eq!(rt; bank.read(2), Some(5));
-        assert_eq!(rt; bank.read(6), Some(5));
-        assert_eq!(rt; bank.read(3), Some(9));
+        for (axis, position) in [(2, 5), (6, 5), (3, 9)] {
+            assert_eq!(rt; bank.read(axis), Some(position), "axis {axis}");
+        }
     }
 
     #[test]
@@ -105,9 +105,9 @@ mod tests {
             Command::Couple { from: 8, to: 0 },
             Command::Mark { code: 4 },
         ]);
-        assert_eq!(rt; bank.read(0), Some(5));
-        assert_eq!(rt; bank.read(1), Some(0));
-        assert_eq!(rt; bank.read(7), Some(0));
+        for (axis, position) in [(0, 5), (1, 0), (7, 0)] {
+            assert_eq!(rt; bank.read(axis), Some(position), "axis {axis}");
+        }
     }
 
     #[test]
@@ -156,22 +156,14 @@ mod tests {
             Command::Mark { code: 15 },
         ]);
         // Newest first: the Set is the eighth place, cells 22 to 24.
-        assert_eq!(rt; recorder.read(0), Some(8));
-        assert_eq!(rt; recorder.read(1), Some(4));
-        assert_eq!(rt; recorder.read(2), Some(15));
-        assert_eq!(rt; recorder.read(3), Some(0));
-        assert_eq!(rt; recorder.read(22), Some(1));
-        assert_eq!(rt; recorder.read(23), Some(5));
-        assert_eq!(rt; recorder.read(24), Some(6));
+        for (i, cell) in [(0, 8), (1, 4), (2, 15), (3, 0), (22, 1), (23, 5), (24, 6)] {
+            assert_eq!(rt; recorder.read(i), Some(cell), "cell {i} after eight");
+        }
         // The ninth pushes it out, and the Shift takes its place.
         recorder.run(Command::Couple { from: 1, to: 2 });
-        assert_eq!(rt; recorder.read(0), Some(9));
-        assert_eq!(rt; recorder.read(1), Some(3));
-        assert_eq!(rt; recorder.read(2), Some(1));
-        assert_eq!(rt; recorder.read(3), Some(2));
-        assert_eq!(rt; recorder.read(22), Some(2));
-        assert_eq!(rt; recorder.read(23), Some(7));
-        assert_eq!(rt; recorder.read(24), Some(8));
+        for (i, cell) in [(0, 9), (1, 3), (2, 1), (3, 2), (22, 2), (23, 7), (24, 8)] {
+            assert_eq!(rt; recorder.read(i), Some(cell), "cell {i} after nine");
+        }
     }
 
     #[test]
@@ -198,24 +190,24 @@ mod tests {
             Command::Shift { axis: 0, amount: 9 },
             Command::Mark { code: 0 },
         ]);
-        assert_eq!(rt; tally.read(0), Some(1));
-        assert_eq!(rt; tally.read(1), Some(2));
-        assert_eq!(rt; tally.read(2), Some(3));
-        assert_eq!(rt; tally.read(3), Some(1));
+        for (i, count) in [(0, 1), (1, 2), (2, 3), (3, 1)] {
+            assert_eq!(rt; tally.read(i), Some(count), "cell {i}");
+        }
     }
 
     #[test]
     fn commands_are_three_numbers(rt: HostRuntime) {
-        assert_eq!(rt;
-            Command::Set {
-                axis: 255,
-                value: 4294967295,
-            }
-            .numbers(),
-            [1, 255, 4294967295]
-        );
-        assert_eq!(rt; Command::Shift { axis: 2, amount: 3 }.numbers(), [2, 2, 3]);
-        assert_eq!(rt; Command::Couple { from: 4, to: 5 }.numbers(), [3, 4, 5]);
-        assert_eq!(rt; Command::Mark { code: 6 }.numbers(), [4, 6, 0]);
+        let set = Command::Set {
+            axis: 255,
+            value: 4294967295,
+        };
+        for (command, numbers) in [
+            (set, [1, 255, 4294967295]),
+            (Command::Shift { axis: 2, amount: 3 }, [2, 2, 3]),
+            (Command::Couple { from: 4, to: 5 }, [3, 4, 5]),
+            (Command::Mark { code: 6 }, [4, 6, 0]),
+        ] {
+            assert_eq!(rt; command.numbers(), numbers, "{command:?}");
+        }
     }
 }

@@ -20,37 +20,31 @@ pub(crate) struct Counts {
     greatest_clock: u64,
 }
 
-/// Counts one more.
-fn tick(count: &mut u64) {
-    *count = count.wrapping_add(1);
-}
-
 impl Counts {
     /// Notes what a call was answered.
     pub(crate) fn note(&mut self, answer: Result<Answer, Refusal>) {
-        match answer {
-            Ok(Answer::Opened) => tick(&mut self.opens),
+        let count = match answer {
+            Ok(Answer::Opened) => &mut self.opens,
             Ok(Answer::Issued(number)) => {
-                tick(&mut self.sends);
                 self.greatest_number = self.greatest_number.max(number);
+                &mut self.sends
             }
-            Ok(Answer::Proposed(_)) => tick(&mut self.hears),
+            Ok(Answer::Proposed(_)) => &mut self.hears,
             Ok(Answer::Fixed(timestamp)) => {
-                tick(&mut self.gathers);
-                if timestamp.is_some() {
-                    tick(&mut self.finals);
-                }
+                self.finals = self.finals.wrapping_add(u64::from(timestamp.is_some()));
+                &mut self.gathers
             }
             Ok(Answer::Clock(clock)) => {
-                tick(&mut self.settles);
                 self.greatest_clock = self.greatest_clock.max(clock);
+                &mut self.settles
             }
-            Ok(Answer::Ran(_)) => tick(&mut self.runs),
-            Err(Refusal::NumbersUsedUp) => tick(&mut self.used_up),
-            Err(Refusal::TableFull) => tick(&mut self.table_full),
-            Err(Refusal::NothingReady) => tick(&mut self.nothing_ready),
-            Err(_) => tick(&mut self.other_refusals),
-        }
+            Ok(Answer::Ran(_)) => &mut self.runs,
+            Err(Refusal::NumbersUsedUp) => &mut self.used_up,
+            Err(Refusal::TableFull) => &mut self.table_full,
+            Err(Refusal::NothingReady) => &mut self.nothing_ready,
+            Err(_) => &mut self.other_refusals,
+        };
+        *count = count.wrapping_add(1);
     }
 }
 
@@ -58,7 +52,11 @@ impl fmt::Display for Counts {
     fn fmt<W: fmt::Write>(&self, f: &mut fmt::Formatter<W>) -> fmt::Result {
         writeln!(f, "     sends    {:>8}", self.sends)?;
         writeln!(f, "     hears    {:>8}", self.hears)?;
-        writeln!(f, "     gathers  {:>8}, final at {}", self.gathers, self.finals)?;
+        writeln!(
+            f,
+            "     gathers  {:>8}, final at {}",
+            self.gathers, self.finals
+        )?;
         writeln!(f, "     settles  {:>8}", self.settles)?;
         writeln!(f, "     runs     {:>8}", self.runs)?;
         write!(f, "     refused: {} table full", self.table_full)?;

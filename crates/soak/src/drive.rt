@@ -113,22 +113,28 @@ impl<M: Machine> Drive<M> {
         // Each member begins at its own share, so no two of them hear the commands in one order.
         for station in stations.iter_mut() {
             let first = SHARE * u64::from(station.member());
-            self.step_batch(station, before, first, |member, number| Call::Hear {
-                member,
-                number,
-            });
+            self.step_batch(
+                station,
+                before,
+                first,
+                |member, number| Call::Hear { member, number },
+            );
         }
         for station in stations.iter_mut() {
-            self.step_batch(station, before, 0, |member, number| Call::Gather {
-                member,
-                number,
-            });
+            self.step_batch(
+                station,
+                before,
+                0,
+                |member, number| Call::Gather { member, number },
+            );
         }
         for station in stations.iter_mut() {
-            self.step_batch(station, before, 0, |member, number| Call::Settle {
-                member,
-                number,
-            });
+            self.step_batch(
+                station,
+                before,
+                0,
+                |member, number| Call::Settle { member, number },
+            );
         }
         for station in stations.iter_mut() {
             self.run_batch(station);

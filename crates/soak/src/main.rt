@@ -22,10 +22,8 @@ const BANK_BATCHES: u64 = 3_125;
 /// Prints the cells of a station.
 fn show_cells<M: Machine>(rt: &HostRuntime, station: &Station<M>) -> io::Result<()> {
     print!(rt; "     cells of member {}:", station.member())?;
-    for i in 0..M::CELLS {
-        if let Some(cell) = station.read(i) {
-            print!(rt; " {cell}")?;
-        }
+    for cell in (0..M::CELLS).filter_map(|i| station.read(i)) {
+        print!(rt; " {cell}")?;
     }
     rt.println("")
 }
