@@ -2,63 +2,55 @@
 use crate::helpers::{mark, opened, set, take};
 use line::state::{Line, Station};
 use machine::axis_bank::AxisBank;
+use machine::command::Command;
 use machine::kind::Machine;
 use ordering::calls::{Answer, Call, Refusal};
 use std::test::Fail;
+
+// The calls with their arguments in order, so that each stands on its test's line.
+fn open(members: u8, last: u64) -> Call {
+    Call::Open { members, last }
+}
+
+fn send(sender: u8, set: u16, command: Command) -> Call {
+    Call::Send {
+        sender,
+        set,
+        command,
+    }
+}
+
+fn hear(member: u8, number: u64) -> Call {
+    Call::Hear { member, number }
+}
+
+fn gather(member: u8, number: u64) -> Call {
+    Call::Gather { member, number }
+}
+
+fn settle(member: u8, number: u64) -> Call {
+    Call::Settle { member, number }
+}
 
 #[test]
 fn ask_open(rt: HostRuntime) {
     let mut line = Line::<AxisBank>::new();
     let mut station = Station::<AxisBank>::new(0);
     assert_eq!(rt;
-        line.ask(
-            Call::Send {
-                sender: 0,
-                set: 1,
-                command: mark(),
-            },
-            &mut station,
-        ),
+        line.ask(send(0, 1, mark()), &mut station),
         Err(Refusal::Closed)
     );
     assert_eq!(rt;
-        line.ask(
-            Call::Open {
-                members: 17,
-                last: 0,
-            },
-            &mut station,
-        ),
+        line.ask(open(17, 0), &mut station),
         Err(Refusal::BadMemberCount)
     );
     assert_eq!(rt;
-        line.ask(
-            Call::Open {
-                members: 2,
-                last: 0,
-            },
-            &mut station,
-        ),
+        line.ask(open(2, 0), &mut station),
         Err(Refusal::BadLastNumber)
     );
+    assert_eq!(rt; line.ask(open(2, 1), &mut station), Ok(Answer::Opened));
     assert_eq!(rt;
-        line.ask(
-            Call::Open {
-                members: 2,
-                last: 1,
-            },
-            &mut station,
-        ),
-        Ok(Answer::Opened)
-    );
-    assert_eq!(rt;
-        line.ask(
-            Call::Open {
-                members: 2,
-                last: 1,
-            },
-            &mut station,
-        ),
+        line.ask(open(2, 1), &mut station),
         Err(Refusal::AlreadyOpen)
     );
     assert_eq!(rt; line.send(1, 0b11, mark()), Ok(1));
@@ -70,58 +62,23 @@ fn ask_send(rt: HostRuntime) -> Result<(), Fail> {
     let mut line = opened(3, 2)?;
     let mut station = Station::<AxisBank>::new(0);
     assert_eq!(rt;
-        line.ask(
-            Call::Send {
-                sender: 3,
-                set: 0,
-                command: mark(),
-            },
-            &mut station,
-        ),
+        line.ask(send(3, 0, mark()), &mut station),
         Err(Refusal::NoMember)
     );
     assert_eq!(rt;
-        line.ask(
-            Call::Send {
-                sender: 2,
-                set: 0,
-                command: mark(),
-            },
-            &mut station,
-        ),
+        line.ask(send(2, 0, mark()), &mut station),
         Err(Refusal::BadSet)
     );
     assert_eq!(rt;
-        line.ask(
-            Call::Send {
-                sender: 2,
-                set: 4,
-                command: set(0),
-            },
-            &mut station,
-        ),
+        line.ask(send(2, 4, set(0)), &mut station),
         Ok(Answer::Issued(1))
     );
     assert_eq!(rt;
-        line.ask(
-            Call::Send {
-                sender: 2,
-                set: 4,
-                command: set(0),
-            },
-            &mut station,
-        ),
+        line.ask(send(2, 4, set(0)), &mut station),
         Ok(Answer::Issued(2))
     );
     assert_eq!(rt;
-        line.ask(
-            Call::Send {
-                sender: 2,
-                set: 4,
-                command: mark(),
-            },
-            &mut station,
-        ),
+        line.ask(send(2, 4, mark()), &mut station),
         Err(Refusal::NumbersUsedUp)
     );
     assert_eq!(rt; line.hear(0, 1), Err(Refusal::NoDestination));
@@ -137,64 +94,16 @@ fn ask_hear(rt: HostRuntime) -> Result<(), Fail> {
     let mut station = Station::<AxisBank>::new(0);
     assert_eq!(rt; line.send(0, 0b10, set(0)), Ok(1));
     assert_eq!(rt; line.send(0, 0b10, set(0)), Ok(2));
+    assert_eq!(rt; line.ask(hear(2, 1), &mut station), Err(Refusal::NoMember));
+    assert_eq!(rt; line.ask(hear(1, 0), &mut station), Err(Refusal::NoCommand));
     assert_eq!(rt;
-        line.ask(
-            Call::Hear {
-                member: 2,
-                number: 1,
-            },
-            &mut station,
-        ),
-        Err(Refusal::NoMember)
-    );
-    assert_eq!(rt;
-        line.ask(
-            Call::Hear {
-                member: 1,
-                number: 0,
-            },
-            &mut station,
-        ),
-        Err(Refusal::NoCommand)
-    );
-    assert_eq!(rt;
-        line.ask(
-            Call::Hear {
-                member: 0,
-                number: 1,
-            },
-            &mut station,
-        ),
+        line.ask(hear(0, 1), &mut station),
         Err(Refusal::NoDestination)
     );
+    assert_eq!(rt; line.ask(hear(1, 2), &mut station), Ok(Answer::Proposed(0)));
+    assert_eq!(rt; line.ask(hear(1, 1), &mut station), Ok(Answer::Proposed(1)));
     assert_eq!(rt;
-        line.ask(
-            Call::Hear {
-                member: 1,
-                number: 2,
-            },
-            &mut station,
-        ),
-        Ok(Answer::Proposed(0))
-    );
-    assert_eq!(rt;
-        line.ask(
-            Call::Hear {
-                member: 1,
-                number: 1,
-            },
-            &mut station,
-        ),
-        Ok(Answer::Proposed(1))
-    );
-    assert_eq!(rt;
-        line.ask(
-            Call::Hear {
-                member: 1,
-                number: 1,
-            },
-            &mut station,
-        ),
+        line.ask(hear(1, 1), &mut station),
         Err(Refusal::AlreadyDone)
     );
     Ok(())
@@ -206,45 +115,21 @@ fn ask_gather(rt: HostRuntime) -> Result<(), Fail> {
     let mut station = Station::<AxisBank>::new(0);
     assert_eq!(rt; line.send(0, 0b11, mark()), Ok(1));
     assert_eq!(rt;
-        line.ask(
-            Call::Gather {
-                member: 1,
-                number: 1,
-            },
-            &mut station,
-        ),
+        line.ask(gather(1, 1), &mut station),
         Err(Refusal::TooEarly)
     );
     assert_eq!(rt; line.hear(1, 1), Ok(0));
     assert_eq!(rt;
-        line.ask(
-            Call::Gather {
-                member: 1,
-                number: 1,
-            },
-            &mut station,
-        ),
+        line.ask(gather(1, 1), &mut station),
         Ok(Answer::Fixed(None))
     );
     assert_eq!(rt;
-        line.ask(
-            Call::Gather {
-                member: 1,
-                number: 1,
-            },
-            &mut station,
-        ),
+        line.ask(gather(1, 1), &mut station),
         Err(Refusal::AlreadyDone)
     );
     assert_eq!(rt; line.hear(0, 1), Ok(0));
     assert_eq!(rt;
-        line.ask(
-            Call::Gather {
-                member: 0,
-                number: 1,
-            },
-            &mut station,
-        ),
+        line.ask(gather(0, 1), &mut station),
         Ok(Answer::Fixed(Some(0)))
     );
     assert_eq!(rt; line.settle(0, 1), Ok(0));
@@ -258,36 +143,15 @@ fn ask_settle(rt: HostRuntime) -> Result<(), Fail> {
     assert_eq!(rt; line.send(0, 0b10, set(0)), Ok(1));
     assert_eq!(rt; line.send(0, 0b10, set(0)), Ok(2));
     assert_eq!(rt;
-        line.ask(
-            Call::Settle {
-                member: 1,
-                number: 1,
-            },
-            &mut station,
-        ),
+        line.ask(settle(1, 1), &mut station),
         Err(Refusal::TooEarly)
     );
     assert_eq!(rt; take(&mut line, 1, 2), Ok(0));
     assert_eq!(rt; line.hear(1, 1), Ok(1));
     assert_eq!(rt; line.gather(1, 1), Ok(Some(1)));
+    assert_eq!(rt; line.ask(settle(1, 1), &mut station), Ok(Answer::Clock(1)));
     assert_eq!(rt;
-        line.ask(
-            Call::Settle {
-                member: 1,
-                number: 1,
-            },
-            &mut station,
-        ),
-        Ok(Answer::Clock(1))
-    );
-    assert_eq!(rt;
-        line.ask(
-            Call::Settle {
-                member: 1,
-                number: 1,
-            },
-            &mut station,
-        ),
+        line.ask(settle(1, 1), &mut station),
         Err(Refusal::AlreadyDone)
     );
     Ok(())
@@ -325,46 +189,15 @@ fn ask_moves_the_station_by_run_only(rt: HostRuntime) -> Result<(), Fail> {
     let mut line = opened(1, 9)?;
     let mut station = Station::<AxisBank>::new(0);
     assert_eq!(rt;
-        line.ask(
-            Call::Send {
-                sender: 0,
-                set: 1,
-                command: set(2),
-            },
-            &mut station,
-        ),
+        line.ask(send(0, 1, set(2)), &mut station),
         Ok(Answer::Issued(1))
     );
+    assert_eq!(rt; line.ask(hear(0, 1), &mut station), Ok(Answer::Proposed(0)));
     assert_eq!(rt;
-        line.ask(
-            Call::Hear {
-                member: 0,
-                number: 1,
-            },
-            &mut station,
-        ),
-        Ok(Answer::Proposed(0))
-    );
-    assert_eq!(rt;
-        line.ask(
-            Call::Gather {
-                member: 0,
-                number: 1,
-            },
-            &mut station,
-        ),
+        line.ask(gather(0, 1), &mut station),
         Ok(Answer::Fixed(Some(0)))
     );
-    assert_eq!(rt;
-        line.ask(
-            Call::Settle {
-                member: 0,
-                number: 1,
-            },
-            &mut station,
-        ),
-        Ok(Answer::Clock(0))
-    );
+    assert_eq!(rt; line.ask(settle(0, 1), &mut station), Ok(Answer::Clock(0)));
     assert_eq!(rt; station.read(2), Some(0));
     assert_eq!(rt;
         line.ask(Call::Run { member: 0 }, &mut station),
