@@ -34,6 +34,7 @@ fn read_input(rt: &HostRuntime, bytes: &mut [u8]) -> io::Result<usize>
     ensures { IfOk result (λ n. n ≤ length bytes.old) }
 {
     let mut input = rt.stdin();
+    // `read_exact` would refuse a shorter script, and `read_to_end` would not stop at a longer one.
     let mut filled = 0;
     while filled < bytes.len() {
         let count = input.read(&mut bytes[filled..])?;
@@ -47,12 +48,7 @@ fn read_input(rt: &HostRuntime, bytes: &mut [u8]) -> io::Result<usize>
 
 /// Whether a word of the command line asks what the program does.
 fn asks_for_help(rt: &HostRuntime) -> io::Result<bool> {
-    for word in env::args(rt)? {
-        if word.as_str() == "--help" {
-            return Ok(true);
-        }
-    }
-    Ok(false)
+    Ok(env::args(rt)?.any(|word| word.as_str() == "--help"))
 }
 
 fn main(rt: HostRuntime) -> io::Result<()> {
