@@ -4,28 +4,26 @@
 ghost use Rattle.example_runs.specs.Differences.{FirstDifference};
 ghost use Rattle.example_runs.specs.Printed.{printed};
 ghost use Rattle.runner.specs.Scripts.{outcome};
-ghost use Rattle.std.specs.Prelude.{◌≡◌, IfOk};
+ghost use Rattle.std.specs.List.{prefix_len, zip};
+ghost use Rattle.std.specs.Prelude.{◌≡◌, IfOk, nat_eq};
 
 use runner::run::{SCRIPT_LIMIT, run_script};
 use std::alloc::{AllocError, Global};
 use std::{fs, io};
 use trace::fault_record;
 
+/// How many bytes two texts share before they differ or one of them ends.
+fn shared_len(a: &[u8], b: &[u8]) -> usize
+    ensures { result ≡ prefix_len (λ p. nat_eq p.0 p.1) (zip a.now b.now) }
+{
+    a.iter().zip(b).take_while(|(x, y)| *x == *y).count()
+}
+
 /// Where two texts first differ, if they do.
 fn first_difference(a: &[u8], b: &[u8]) -> Option<usize>
     ensures { FirstDifference a.now b.now result }
 {
-    let shorter = a.len().min(b.len());
-    for at in 0..shorter {
-        if a[at] != b[at] {
-            return Some(at);
-        }
-    }
-    if a.len() == b.len() {
-        None
-    } else {
-        Some(shorter)
-    }
+    if a == b { None } else { Some(shared_len(a, b)) }
 }
 
 /// What a script gives: its trace, and the record of its fault behind it.
