@@ -11,6 +11,7 @@ use machine::kind::Machine;
 fn conflicts<M: Machine>(remembered: &[Remembered], command: Command) -> bool
     ensures { result ≡ any_clash M.kind command remembered.now }
 {
+    // A for loop, and not any: this form is a wanted one (docs/DECISIONS.md).
     for held in remembered {
         if M::conflict(held.command, command) {
             return true;

@@ -161,5 +161,6 @@ impl OpenCommand {
 pub(crate) fn earlier(a: (u64, u64), b: (u64, u64)) -> bool
     ensures { result ≡ earlier a b }
 {
+    // Part by part, and not by the tuples' own order: this form is a wanted one (docs/DECISIONS.md).
     a.0 < b.0 || (a.0 == b.0 && a.1 < b.1)
 }

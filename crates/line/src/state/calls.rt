@@ -32,10 +32,7 @@ impl<M: Machine> Line<M> {
     pub fn members(&self) -> u8
         ensures { result ≡ member_count (view_line self.now.book) }
     {
-        match &self.book {
-            Some(book) => book.tables.members,
-            None => 0,
-        }
+        self.book.as_ref().map_or(0, |book| book.tables.members)
     }
 
     /// Opens the line for `members` members, 1 to 16, and issue numbers up to `last`, 1 to 2^48.
@@ -55,9 +52,7 @@ impl<M: Machine> Line<M> {
         ensures steps { Answers M.kind (view_line self.old.book) (Send sender set command) (sending sender set command result) (view_line self.new.book) }
         ensures kept { KeptIf result self.old self.new }
     {
-        let Some(book) = &mut self.book else {
-            return Err(Refusal::Closed);
-        };
+        let book = self.book.as_mut().ok_or(Refusal::Closed)?;
         book.send(sender, set, command)
     }
 
@@ -66,9 +61,7 @@ impl<M: Machine> Line<M> {
         ensures steps { Answers M.kind (view_line self.old.book) (Hear member number) (hearing member number result) (view_line self.new.book) }
         ensures kept { KeptIf result self.old self.new }
     {
-        let Some(book) = &mut self.book else {
-            return Err(Refusal::Closed);
-        };
+        let book = self.book.as_mut().ok_or(Refusal::Closed)?;
         book.hear::<M>(member, number)
     }
 
@@ -77,9 +70,7 @@ impl<M: Machine> Line<M> {
         ensures steps { Answers M.kind (view_line self.old.book) (Gather member number) (gathering member number result) (view_line self.new.book) }
         ensures kept { KeptIf result self.old self.new }
     {
-        let Some(book) = &mut self.book else {
-            return Err(Refusal::Closed);
-        };
+        let book = self.book.as_mut().ok_or(Refusal::Closed)?;
         book.gather(member, number)
     }
 
@@ -88,9 +79,7 @@ impl<M: Machine> Line<M> {
         ensures steps { Answers M.kind (view_line self.old.book) (Settle member number) (settling member number result) (view_line self.new.book) }
         ensures kept { KeptIf result self.old self.new }
     {
-        let Some(book) = &mut self.book else {
-            return Err(Refusal::Closed);
-        };
+        let book = self.book.as_mut().ok_or(Refusal::Closed)?;
         book.settle(member, number)
     }
 
@@ -103,9 +92,7 @@ impl<M: Machine> Line<M> {
         ensures stays { station.new.member ≡ station.old.member }
         ensures idle { KeptIf result station.old station.new }
     {
-        let Some(book) = &mut self.book else {
-            return Err(Refusal::Closed);
-        };
+        let book = self.book.as_mut().ok_or(Refusal::Closed)?;
         let taken = book.run::<M>(station.member)?;
         station.machine.run(taken.command);
         Ok(taken.pair)
