@@ -20,7 +20,7 @@ pub(crate) struct Rest<'a> {
 fn is_text(b: u8) -> bool
     ensures { result ≡ textdata b }
 {
-    !matches!(b, b',' | b'"' | b'\r' | b'\n')
+    !matches!(b, b',' | b'"' | 13 | 10)
 }
 
 /// How many bytes of text stand first.
@@ -116,7 +116,7 @@ impl<'a> Rest<'a> {
                 rest,
                 next: at + 1,
             }),
-            [b'\r', b'\n', rest @ ..] => Ok(FieldCut {
+            [13, 10, rest @ ..] => Ok(FieldCut {
                 field,
                 end: FieldEnd::Last(RecordEnd::CrLf),
                 rest,
