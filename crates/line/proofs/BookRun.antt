@@ -1,4 +1,5 @@
 -- A run on the tables does what the model does: the command is marked as run, and leaves once it has run everywhere.
+use Rattle.std.proofs.lemmas.Option.{none-some, slice_get_within}
 use Rattle.std.proofs.Common.{◌≡◌, ℕ, zero, suc, ◌-◌, ◌<◌, ◌≤◌, Bool, true, false, cond, List, [], ◌∷◌, length, take, set, Some, None, Ok, Err, Option, Result, sym, refl, ap, ◌∙◌, subst, ⊎_elim, arith, length-set, length-take}
 use Rattle.std.proofs.lemmas.Bool.{lt-ltb}
 use Rattle.std.proofs.lemmas.List.{take_all}
@@ -14,9 +15,8 @@ use Rattle.line.specs.Calls.{Releases, released_by}
 use Rattle.open_commands.specs.Places.{BestTo, EarliestAt}
 use Rattle.line.proofs.Done.{RunDone}
 use Rattle.machine.specs.declared.command.Command.{Command}
-use Rattle.ordering.proofs.Basics.{none_some}
 use Rattle.open_commands.proofs.Keyed.{lookup_own, lookup_removed, apart_removed}
-use Rattle.line.proofs.Running.{nth_inside, none_ready, one_ready}
+use Rattle.line.proofs.Running.{none_ready, one_ready}
 use Rattle.line.proofs.TableViews.{book_path, view_phase, view_place, fits_place, nth-set, nth_set_same, mapped-put}
 use Rattle.machine.specs.Kinds.{Kind}
 use Rattle.ordering.proofs.Accepted.{run_ok}
@@ -34,8 +34,8 @@ nth_some (y ∷ ys) zero l = (y, refl)
 nth_some (y ∷ ys) (suc i) l = nth_some ys i (omega arith)
 
 nth-take : {X : Type 0} (xs : List X) (n i : ℕ) (x : X) → slice_get (take n xs) i ≡ Some x → slice_get xs i ≡ Some x
-nth-take xs zero i x h = absurd (none_some h)
-nth-take [] (suc n) i x h = absurd (none_some h)
+nth-take xs zero i x h = absurd (none-some _ h)
+nth-take [] (suc n) i x h = absurd (none-some _ h)
 nth-take (y ∷ ys) (suc n) zero x h = h
 nth-take (y ∷ ys) (suc n) (suc i) x h = nth-take ys n i x h
 
@@ -83,7 +83,7 @@ module _ (K : Kind) (b : Tables) (g : Good b) (m : ℕ) (member : m < b.members)
     o = best.0
 
     pub place_used : c.place < (length b.commands)
-    place_used = let w = nth_inside b.commands c.place best.0 best.1 in omega arith
+    place_used = let w = slice_get_within b.commands c.place best.0 best.1 in omega arith
 
     wide : length best.0.destinations ≡ 16
     wide = g.fits.wide c.place best.0 best.1

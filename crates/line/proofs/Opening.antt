@@ -1,4 +1,5 @@
 -- A newly opened line is what the model opens, and carries all that a line carries.
+use Rattle.std.proofs.lemmas.Option.{none-some}
 use Rattle.std.proofs.Common.{◌≡◌, ℕ, ◌^◌, ◌≤◌, true, ◌&&◌, leb, length, Some, Ok, sym, refl, ap, ◌∙◌, subst, arith}
 use Rattle.std.proofs.lemmas.Bool.{le-leb, and_from}
 use Rattle.std.specs.List.{slice_get}
@@ -8,7 +9,6 @@ use Rattle.open_commands.specs.Views.{number_of}
 use Rattle.open_commands.specs.Lists.{apart}
 use Rattle.line.specs.Calls.{EmptyTables}
 use Rattle.line.proofs.TableViews.{book_path}
-use Rattle.ordering.proofs.Basics.{none_some}
 use Rattle.ordering.proofs.SoundSteps.{sound_new}
 use Rattle.ordering.specs.declared.calls.Refusal.TheVariants.{BadMemberCount, BadLastNumber}
 use Rattle.ordering.specs.Kept.{Sound}
@@ -28,7 +28,7 @@ module _ (n last : ℕ) (b : Tables) (e : EmptyTables n last b) where
           numbers = let w : b.issued ≡ 0 = e.issued in omega arith;
           lasts = subst (λ x. x ≤ 2 ^ 48) (sym e.lasts) most;
           distinct = subst (λ ps. apart number_of ps ≡ true) (sym e.commands) refl;
-          wide = λ i p h. absurd (none_some (subst (λ ps. slice_get ps i ≡ Some p) e.commands h));
+          wide = λ i p h. absurd (none-some _ (subst (λ ps. slice_get ps i ≡ Some p) e.commands h));
           seated = λ m l. subst SeatFits (sym (e.roll m)) (record { few = omega arith; distinct = refl });
         }
 

@@ -1,5 +1,6 @@
 -- The scan for the earliest ready command finds what the model's search by issue number finds.
-use Rattle.std.proofs.Common.{◌≡◌, ℕ, zero, suc, ◌<◌, ◌≤◌, true, cond, List, [], ◌∷◌, length, Some, None, Option, sym, refl, ap, ◌∙◌, subst, arith}
+use Rattle.std.proofs.lemmas.Option.{none-some, slice_get_within}
+use Rattle.std.proofs.Common.{◌≡◌, ℕ, suc, ◌<◌, ◌≤◌, true, cond, length, Some, None, Option, sym, refl, ap, ◌∙◌, subst, arith}
 use Rattle.std.specs.List.{slice_get}
 use Rattle.line.specs.declared.parts.Tables.{Tables}
 use Rattle.open_commands.specs.declared.parts.OpenCommand.{OpenCommand as Place}
@@ -13,16 +14,10 @@ use Rattle.open_commands.proofs.Lists.{all_of_lem, each_of}
 use Rattle.line.proofs.SeatViews.{same_tests}
 use Rattle.machine.specs.declared.command.Command.{Command}
 use Rattle.machine.specs.Kinds.{Kind}
-use Rattle.ordering.proofs.Basics.{none_some}
 use Rattle.ordering.proofs.Bounded.{all_each, all_from}
 use Rattle.ordering.proofs.Ready.{earliest_found, earliest_least, earliest_some}
 use Rattle.ordering.specs.Searches.{Pair, earliest_below}
 use Rattle.ordering.specs.Steps.{passes, unhindered, ready_at, ready_if, settled_as}
-
-pub nth_inside : {X : Type 0} (xs : List X) (i : ℕ) (x : X) → slice_get xs i ≡ Some x → i < length xs
-nth_inside [] i x h = absurd (none_some h)
-nth_inside (y ∷ ys) zero x h = omega arith
-nth_inside (y ∷ ys) (suc i) x h = let w = nth_inside ys i x h in omega arith
 
 module _ (K : Kind) (b : Tables) (g : Good b) (m : ℕ) where
   found : (i : ℕ) (o : Place) → slice_get b.commands i ≡ Some o → lookup_by number_of b.commands o.number ≡ Some o
@@ -71,7 +66,7 @@ module _ (K : Kind) (b : Tables) (g : Good b) (m : ℕ) where
   placed k f h = go (lookup_by number_of b.commands k) refl
     where
       go : (x : Option Place) → lookup_by number_of b.commands k ≡ x → Placed k f
-      go None e = absurd (none_some (sym (ap (λ y. ready_if K (view_tables b) m k (mapped view_open y) (settled_as m (mapped view_open y))) e) ∙ h))
+      go None e = absurd (none-some _ (sym (ap (λ y. ready_if K (view_tables b) m k (mapped view_open y) (settled_as m (mapped view_open y))) e) ∙ h))
       go (Some o) e =
           let w = lookup_place number_of b.commands k o e in
           record {
@@ -83,7 +78,7 @@ module _ (K : Kind) (b : Tables) (g : Good b) (m : ℕ) where
           }
 
   used_length : (i : ℕ) (o : Place) → slice_get b.commands i ≡ Some o → i < (length b.commands)
-  used_length i o at = nth_inside b.commands i o at
+  used_length i o at = slice_get_within b.commands i o at
 
   pub none_ready : BestTo K m b.commands (length b.commands) None → earliest_below (suc b.issued) (ready_at K (view_tables b) m) ≡ None
   none_ready best = go (earliest_below (suc b.issued) (ready_at K (view_tables b) m)) refl
@@ -93,7 +88,7 @@ module _ (K : Kind) (b : Tables) (g : Good b) (m : ℕ) where
       go (Some p) e =
           let w = earliest_found (suc b.issued) (ready_at K (view_tables b) m) p e in
           let q = placed p.1 p.0 w.1 in
-          absurd (none_some (sym (best q.i q.o (used_length q.i q.o q.at) q.at) ∙ q.ready))
+          absurd (none-some _ (sym (best q.i q.o (used_length q.i q.o q.at) q.at) ∙ q.ready))
 
   pub one_ready : (c : Candidate) → BestTo K m b.commands (length b.commands) (Some c) → earliest_below (suc b.issued) (ready_at K (view_tables b) m) ≡ Some c.pair
   one_ready c best =

@@ -1,6 +1,6 @@
 -- A hear and a settle at one member, on its fixed places and in the model.
 use Rattle.std.proofs.Common.{◌≡◌, ℕ, ◌+◌, ◌<◌, ◌≤◌, Bool, true, false, cond, not, ◌&&◌, eqb, ltb, leb, [], length, Some, None, Option, sym, refl, ap, ◌∙◌, subst, add-one, arith}
-use Rattle.std.proofs.lemmas.Bool.{lt-ltb, le-ltb, ltb-true, leb-false, leb-true, or_parts, cond-true, cond-false, and_parts, not-true}
+use Rattle.std.proofs.lemmas.Bool.{lt-ltb, le-ltb, ltb-true, leb-false, leb-true, or_parts, cond-true, cond-false, and_parts, not-true, false≢true}
 use Rattle.line.specs.declared.parts.Member.{Member as Seat}
 use Rattle.line.specs.Tables.{view_member, SeatFits}
 use Rattle.line.specs.Views.{any_number, any_clash, rises_in, proposal_in, risen_seat, lift_in, remember_in, hear_in, settle_in}
@@ -8,7 +8,6 @@ use Rattle.line.proofs.SeatViews.{Known, full_view, rises_view, number_view, rem
 use Rattle.line.proofs.TableViews.{member_path}
 use Rattle.machine.specs.declared.command.Command.{Command}
 use Rattle.machine.specs.Kinds.{Kind}
-use Rattle.ordering.proofs.Basics.{false_true}
 use Rattle.ordering.specs.Lines.{Member}
 use Rattle.ordering.specs.Searches.{put, present}
 use Rattle.ordering.specs.Steps.{is_full, must_rise, risen, remember, hearer, settler}
@@ -104,7 +103,7 @@ module _ (issued : ℕ) (p : Seat) (f : SeatFits p) (known : Known issued p) whe
 
       absent : (o : Option Command) → not (present o) ≡ true → o ≡ None
       absent None h = refl
-      absent (Some x) h = absurd (false_true h)
+      absent (Some x) h = absurd (false≢true h)
 
       by_room : (view_member p).remembers k ≡ None → (r : Bool) → leb 16 (length p.remembered) ≡ r → Shows (cond r (risen_seat p) (remember_in p k c)) (cond r (risen (view_member p)) (remember k c (view_member p)))
       by_room new true e = rising

@@ -1,4 +1,6 @@
 -- A member's clock and on.remembered fixed places do what the model's do.
+use Rattle.std.proofs.lemmas.Bool.{false≢true}
+use Rattle.std.proofs.lemmas.Option.{none-some}
 use Rattle.std.proofs.Common.{◌≡◌, ℕ, suc, ◌<◌, ◌≤◌, Bool, true, false, cond, ◌||◌, eqb, leb, List, [], ◌∷◌, length, Some, None, Option, sym, refl, ap, ◌∙◌, arith}
 use Rattle.std.proofs.lemmas.List.{length-append}
 use Rattle.std.specs.List.{slice_get}
@@ -12,7 +14,6 @@ use Rattle.open_commands.proofs.Lists.{any_at, some_of}
 use Rattle.line.proofs.TableViews.{member_path, mapped-put}
 use Rattle.machine.specs.declared.command.Command.{Command}
 use Rattle.machine.specs.Kinds.{Kind}
-use Rattle.ordering.proofs.Basics.{none_some, false_true}
 use Rattle.ordering.proofs.Bounded.{any_found, any_none}
 use Rattle.ordering.specs.Lines.{held_count}
 use Rattle.ordering.specs.Searches.{present, any_below, count_below}
@@ -53,7 +54,7 @@ module _ (issued : ℕ) (p : Seat) (f : SeatFits p) (known : Known issued p) whe
   clash_view K c = same_tests _ _ there back
     where
       found : (k : ℕ) (o : Option Remembered) → lookup_by held_number p.remembered k ≡ o → clashes K c (mapped held_command o) ≡ true → any_clash K c p.remembered ≡ true
-      found k None e h = absurd (false_true h)
+      found k None e h = absurd (false≢true h)
       found k (Some r) e h =
           let w = lookup_place held_number p.remembered k r e in
           any_at (λ x. K.conflict x.command c) p.remembered w.0 r w.1 h
@@ -72,7 +73,7 @@ module _ (issued : ℕ) (p : Seat) (f : SeatFits p) (known : Known issued p) whe
           go : (t : Bool) → any_below (suc issued) (λ k. clashes K c (view_memory p.remembered k)) ≡ t → t ≡ true
           go true e = refl
           go false e =
-              absurd (false_true (sym (any_none (suc issued) (λ k. clashes K c (view_memory p.remembered k)) e (held_number w.1) (held_known w.0 w.1 w.2)) ∙ (ap (λ o. clashes K c (mapped held_command o)) (lookup_own held_number p.remembered w.0 w.1 f.distinct w.2) ∙ w.3)))
+              absurd (false≢true (sym (any_none (suc issued) (λ k. clashes K c (view_memory p.remembered k)) e (held_number w.1) (held_known w.0 w.1 w.2)) ∙ (ap (λ o. clashes K c (mapped held_command o)) (lookup_own held_number p.remembered w.0 w.1 f.distinct w.2) ∙ w.3)))
 
   pub rises_view : (K : Kind) (c : Command) → must_rise K issued c (view_member p) ≡ rises_in K p c
   rises_view K c = ap (λ t. t || any_below (suc issued) (λ k. clashes K c (view_memory p.remembered k))) full_view ∙ ap (λ t. leb 16 (length p.remembered) || t) (clash_view K c)
@@ -90,7 +91,7 @@ module _ (issued : ℕ) (p : Seat) (f : SeatFits p) (known : Known issued p) whe
 
 unmapped : {X Y : Type 0} (f : X → Y) (o : Option X) → mapped f o ≡ None → o ≡ None
 unmapped f None e = refl
-unmapped f (Some r) e = absurd (none_some (sym e))
+unmapped f (Some r) e = absurd (none-some _ (sym e))
 
 -- A command put into the memory.
 module _ (p : Seat) (few : length p.remembered < 16) (k : ℕ) (c : Command) where

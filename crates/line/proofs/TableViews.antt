@@ -1,4 +1,5 @@
 -- One place or one seat of the tables changed: what the model sees, and that the tables still fit.
+use Rattle.std.proofs.lemmas.Option.{none-some}
 use Rattle.std.proofs.Common.{◌≡◌, ℕ, zero, suc, ◌<◌, ◌≤◌, Bool, true, false, cond, eqb, ◌≢◌, ◌⊎◌, List, [], ◌∷◌, length, get_or, set, Some, Option, sym, refl, ap, ◌∙◌, subst, inl, inr, ⊎_elim, arith, length-set, get_or-set_other, get_or-set_same}
 use Rattle.std.specs.List.{slice_get}
 use Rattle.line.specs.declared.parts.Tables.{Tables}
@@ -9,7 +10,7 @@ use Rattle.open_commands.specs.Views.{number_of, phase_in, unsent, view_open, wi
 use Rattle.line.specs.Tables.{view_table, view_member, with_place, with_seat, Fits, SeatFits}
 use Rattle.line.specs.Views.{new_seat}
 use Rattle.open_commands.proofs.Keyed.{lookup_set, apart_set}
-use Rattle.ordering.proofs.Basics.{some_inj, none_some, put_cases}
+use Rattle.ordering.proofs.Basics.{some_inj, put_cases}
 use Rattle.ordering.specs.declared.calls.Phase.{Phase}
 use Rattle.ordering.specs.Lines.{OpenCommand, Member, Book}
 use Rattle.ordering.specs.Searches.{put}
@@ -58,14 +59,14 @@ mapped-put f k j o g = go (eqb k j)
 
 -- What stands in a list written at one place: the new element, or what stood there.
 pub nth-set : {X : Type 0} (xs : List X) (i j : ℕ) (x y : X) → slice_get (set xs i x) j ≡ Some y → (x ≡ y) ⊎ (slice_get xs j ≡ Some y)
-nth-set [] i j x y h = absurd (none_some h)
+nth-set [] i j x y h = absurd (none-some _ h)
 nth-set (z ∷ zs) zero zero x y h = inl (some_inj h)
 nth-set (z ∷ zs) zero (suc j) x y h = inr h
 nth-set (z ∷ zs) (suc i) zero x y h = inr h
 nth-set (z ∷ zs) (suc i) (suc j) x y h = nth-set zs i j x y h
 
 pub nth_set_same : {X : Type 0} (xs : List X) (i : ℕ) (x y : X) → slice_get xs i ≡ Some x → slice_get (set xs i y) i ≡ Some y
-nth_set_same [] i x y h = absurd (none_some h)
+nth_set_same [] i x y h = absurd (none-some _ h)
 nth_set_same (z ∷ zs) zero x y h = refl
 nth_set_same (z ∷ zs) (suc i) x y h = nth_set_same zs i x y h
 

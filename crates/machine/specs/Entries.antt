@@ -1,6 +1,7 @@
 -- The record's cells by places of three: which cells the first places have, and which cell stands where.
 use Rattle.std.specs.Prelude.{◌≡◌, ℕ, zero, suc, ◌+◌, ◌*◌, ◌/◌, ◌%◌, ◌<◌, ◌≤◌, List, [], ◌∷◌, ◌++◌, map, length, get_or, take, drop, Some, None, Option, slice_index, slice_index_or, refl}
 use Rattle.std.proofs.Common.{sym, ap, ◌∙◌, arith, drop-cons}
+use lib.Seq.{take-append-add}
 use Rattle.std.specs.List.{slice_get}
 use Rattle.std.proofs.lemmas.List.{length-append}
 use Rattle.std.proofs.lemmas.Option.{slice_get-get_or, slice_get_past}
@@ -24,18 +25,12 @@ entries_length : (l : List (Option Command)) → length (entries l) ≡ 3 * leng
 entries_length [] = refl
 entries_length (o ∷ os) = rw length-append (omega (arith, three o, entries_length os))
 
-take_over : (xs ys : List ℕ) (n : ℕ) → take (length xs + n) (xs ++ ys) ≡ xs ++ take n ys
-take_over [] ys n = let e : 0 + n ≡ n = omega arith in rw e
-take_over (x ∷ xs) ys n =
-    let e : suc (length xs) + n ≡ suc (length xs + n) = omega arith in
-    rw e (ap (λ zs. x ∷ zs) (take_over xs ys n))
-
 entries_take : (k : ℕ) (l : List (Option Command)) → k ≤ length l → take (3 * k) (entries l) ≡ entries (take k l)
 entries_take zero l h = refl
 entries_take (suc k) [] h = absurd (omega arith)
 entries_take (suc k) (o ∷ os) h =
     let e : 3 * suc k ≡ length (entry o) + 3 * k = omega (arith, three o) in
-    rw e (take_over (entry o) (entries os) (3 * k) ∙ ap (λ zs. entry o ++ zs) (entries_take k os (omega arith)))
+    rw e (take-append-add (entry o) (entries os) (3 * k) ∙ ap (λ zs. entry o ++ zs) (entries_take k os (omega arith)))
 
 nth_left : (xs ys : List ℕ) (i : ℕ) → i < length xs → slice_get (xs ++ ys) i ≡ slice_get xs i
 nth_left [] ys i h = absurd (omega arith)

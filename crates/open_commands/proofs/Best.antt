@@ -1,13 +1,14 @@
 -- The scan for the earliest ready command, one place at a time.
+use Rattle.std.proofs.lemmas.Option.{none-some}
 use Rattle.std.proofs.Common.{◌≡◌, ℕ, ◌+◌, ◌<◌, ◌≤◌, Bool, true, false, cond, ◌&&◌, eqb, ltb, List, Some, None, Option, sym, refl, ap, ◌∙◌, subst, ⊎_elim, arith}
-use Rattle.std.proofs.lemmas.Bool.{cases_eq, or_parts, and_cases, ltb-false, eqb-false}
+use Rattle.std.proofs.lemmas.Bool.{cases_eq, or_parts, and_cases, ltb-false, eqb-false, false≢true}
 use Rattle.std.specs.List.{slice_get}
 use Rattle.open_commands.specs.declared.parts.OpenCommand.{OpenCommand as Place}
 use Rattle.open_commands.specs.declared.table.Candidate.{Candidate}
 use Rattle.open_commands.specs.Places.{all_pass, ready_in, ready_place, improves_on, BestTo}
 use Rattle.open_commands.specs.Views.{view_open}
 use Rattle.machine.specs.Kinds.{Kind}
-use Rattle.ordering.proofs.Basics.{some_inj, none_some, false_true}
+use Rattle.ordering.proofs.Basics.{some_inj}
 use Rattle.ordering.proofs.Pairs.{earlier_true, earlier_prior}
 use Rattle.ordering.specs.Searches.{Pair, earlier}
 use Rattle.ordering.specs.Steps.{settled_as}
@@ -35,7 +36,7 @@ module _ (K : Kind) (m : ℕ) (ps : List Place) (n : ℕ) (x : Place) (at : slic
   pub best_skip : (best : Option Candidate) → ready_place K m ps x ≡ None → BestTo K m ps n best → BestTo K m ps (n + 1) best
   best_skip None h b = places_more ps n x (λ q. ready_place K m ps q ≡ None) at h b
   best_skip (Some c) h b =
-      (b.0, b.1, b.2, b.3, λ j g q l e r. places_more ps n x (λ y. ready_place K m ps y ≡ Some g → NoLater c.pair g y.number) at (λ w. absurd (none_some (sym h ∙ w))) (λ i y k u. b.4 i g y k u) j q l e r)
+      (b.0, b.1, b.2, b.3, λ j g q l e r. places_more ps n x (λ y. ready_place K m ps y ≡ Some g → NoLater c.pair g y.number) at (λ w. absurd (none-some _ (sym h ∙ w))) (λ i y k u. b.4 i g y k u) j q l e r)
 
   module _ (f : ℕ) (settled : settled_as m (Some (view_open x)) ≡ Some f) where
     ready_value : (t : Bool) → all_pass K m (f, x.number) x.command ps ≡ t → ready_place K m ps x ≡ cond t (Some f) None
@@ -46,10 +47,10 @@ module _ (K : Kind) (m : ℕ) (ps : List Place) (n : ℕ) (x : Place) (at : slic
       where
         go : (t : Bool) → all_pass K m (f, x.number) x.command ps ≡ t → f ≡ g
         go true e = some_inj (sym (ready_value true e) ∙ h)
-        go false e = absurd (none_some (sym (ready_value false e) ∙ h))
+        go false e = absurd (none-some _ (sym (ready_value false e) ∙ h))
 
     pub best_keep : (best : Option Candidate) → improves_on best (f, x.number) ≡ false → BestTo K m ps n best → BestTo K m ps (n + 1) best
-    best_keep None h b = absurd (false_true (sym h))
+    best_keep None h b = absurd (false≢true (sym h))
     best_keep (Some c) h b =
         (b.0, b.1, b.2, b.3, λ j g q l e r. places_more ps n x (λ y. ready_place K m ps y ≡ Some g → NoLater c.pair g y.number) at (λ w. subst (λ y. NoLater c.pair y x.number) (ready_only g w) (not_earlier (f, x.number) c.pair h)) (λ i y k u. b.4 i g y k u) j q l e r)
 
@@ -67,6 +68,6 @@ module _ (K : Kind) (m : ℕ) (ps : List Place) (n : ℕ) (x : Place) (at : slic
         chain p g k u w = omega arith
 
         old : (best : Option Candidate) → improves_on best (f, x.number) ≡ true → BestTo K m ps n best → (g i : ℕ) (y : Place) → i < n → slice_get ps i ≡ Some y → ready_place K m ps y ≡ Some g → NoLater (f, x.number) g y.number
-        old None h b g i y k u w = absurd (none_some (sym (b i y k u) ∙ w))
+        old None h b g i y k u w = absurd (none-some _ (sym (b i y k u) ∙ w))
         old (Some c) h b g i y k u w =
             chain c.pair g y.number (earlier_prior (f, x.number) c.pair (earlier_true (f, x.number) c.pair h)) (b.4 i g y k u w)

@@ -1,9 +1,9 @@
 -- Loops over the destinations of an open command, turn by turn.
+use Rattle.std.proofs.lemmas.Option.{none-some}
 use Rattle.std.proofs.Common.{◌≡◌, ℕ, ◌+◌, ◌^◌, ◌<◌, ◌≤◌, Bool, true, false, cond, not, ◌||◌, Some, None, sym, refl, ap, ◌∙◌, subst, add-one, arith}
 use Rattle.std.proofs.lemmas.Bool.{and_from, false_from_ne_true}
 use Rattle.ordering.proofs.Bits.{names_below}
 use Rattle.open_commands.specs.Views.{gathered_by, gathered_at, done_at}
-use Rattle.ordering.proofs.Basics.{none_some}
 use Rattle.ordering.proofs.Bounded.{all_fails}
 use Rattle.ordering.specs.declared.calls.Phase.{Phase}
 use Rattle.ordering.specs.declared.calls.Phase.TheVariants.{Sent, Heard, Gathered, Settled, Run}
@@ -24,13 +24,13 @@ miss o q h = by_name (names o.set q) h
     by_phase : (x : Phase) → gathered_by x ≡ None → is_gathered x ≡ false
     by_phase Sent h = refl
     by_phase (Heard t) h = refl
-    by_phase (Gathered t) h = absurd (none_some (sym h))
+    by_phase (Gathered t) h = absurd (none-some _ (sym h))
     by_phase Settled h = refl
     by_phase Run h = refl
 
     by_name : (n : Bool) → cond n (gathered_by (o.phase q)) (Some 0) ≡ None → (not n || is_gathered (o.phase q)) ≡ false
     by_name true h = by_phase (o.phase q) h
-    by_name false h = absurd (none_some (sym h))
+    by_name false h = absurd (none-some _ (sym h))
 
 pub final_stop : (o : OpenCommand) (q : ℕ) → q < 16 → gathered_at o q ≡ None → None ≡ final_of o
 final_stop o q l h = ap (λ t. cond t (Some (greatest_proposal o)) None) (sym (all_fails 16 (test o) q l (miss o q h)))

@@ -1,12 +1,12 @@
 -- Lists with keys: what a look-up answers, and what it answers after a change at one place.
 use Rattle.std.proofs.Common.{◌≡◌, ℕ, zero, suc, ◌+◌, ◌<◌, ◌≤◌, Bool, true, false, cond, not, ◌&&◌, eqb, List, [], ◌∷◌, ◌++◌, length, take, set, get_or, Some, None, Option, sym, refl, ap, ◌∙◌, subst, ⊎_elim, ◌⊎◌, ◌≢◌, arith}
 use lib.Seq.{take-set-le, take-set-lt}
-use Rattle.std.proofs.lemmas.Bool.{cases_eq, eq-eqb, ne_eqb, eqb-true, cond-true, cond-false, and_parts, and_from}
-use Rattle.std.proofs.lemmas.Option.{get_or_from_slice_get, slice_get_cases}
+use Rattle.std.proofs.lemmas.Bool.{cases_eq, eq-eqb, ne_eqb, eqb-true, cond-true, cond-false, and_parts, and_from, false≢true}
+use Rattle.std.proofs.lemmas.Option.{get_or_from_slice_get, slice_get_cases, none-some}
 use Rattle.std.specs.List.{slice_get, AllWithin, HoldsAt}
 use Rattle.std.specs.Option.{IfSome, MatchOption}
 use Rattle.open_commands.specs.Lists.{lookup_by, apart, MissTo}
-use Rattle.ordering.proofs.Basics.{some_inj, none_some, false_true, put_other}
+use Rattle.ordering.proofs.Basics.{some_inj, put_other}
 use Rattle.ordering.proofs.Bounded.{sum_change}
 use Rattle.ordering.specs.Searches.{put, present, count_below, sum_below}
 
@@ -16,7 +16,7 @@ lookup_none key (x ∷ xs) k n l h =
     cond-false (eqb (key x) k) (Some x) (lookup_by key xs k) (ne_eqb (key x) k (h 0 x (omega arith) refl)) ∙ lookup_none key xs k (length xs) (omega arith) (λ j y m. h (suc j) y (omega arith))
 
 pub lookup_first : {X : Type 0} (key : X → ℕ) (xs : List X) (k i : ℕ) (x : X) → slice_get xs i ≡ Some x → key x ≡ k → MissTo key xs k i → lookup_by key xs k ≡ slice_get xs i
-lookup_first key [] k i x at e h = absurd (none_some at)
+lookup_first key [] k i x at e h = absurd (none-some _ at)
 lookup_first key (y ∷ ys) k zero x at e h =
     cond-true (eqb (key y) k) (Some y) (lookup_by key ys k) (eq-eqb (key y) k (ap key (some_inj at) ∙ e))
 lookup_first key (y ∷ ys) k (suc i) x at e h =
@@ -47,7 +47,7 @@ module _ {X : Type 0} (key : X → ℕ) (xs : List X) (k : ℕ) where
 
 absent : {X : Type 0} (o : Option X) → not (present o) ≡ true → o ≡ None
 absent None h = refl
-absent (Some x) h = absurd (false_true h)
+absent (Some x) h = absurd (false≢true h)
 
 pub present_none : {X : Type 0} (o : Option X) → o ≡ None → not (present o) ≡ true
 present_none o e = ap (λ y. not (present y)) e
@@ -68,7 +68,7 @@ module _ {X : Type 0} (key : X → ℕ) where
 
   -- What a look-up finds stands somewhere and has the key.
   pub lookup_place : (xs : List X) (k : ℕ) (x : X) → lookup_by key xs k ≡ Some x → (i : ℕ) × (slice_get xs i ≡ Some x) × (key x ≡ k) × (i < length xs)
-  lookup_place [] k x h = absurd (none_some h)
+  lookup_place [] k x h = absurd (none-some _ h)
   lookup_place (y ∷ ys) k x h =
       ⊎_elim
       (λ e. let w : y ≡ x = some_inj (sym (lookup_head y ys k e) ∙ h) in (0, ap Some w, sym (ap key w) ∙ e, omega arith))
@@ -77,19 +77,19 @@ module _ {X : Type 0} (key : X → ℕ) where
 
   -- What stands somewhere is found under its key.
   pub lookup_own : (xs : List X) (i : ℕ) (x : X) → apart key xs ≡ true → slice_get xs i ≡ Some x → lookup_by key xs (key x) ≡ Some x
-  lookup_own [] i x h at = absurd (none_some at)
+  lookup_own [] i x h at = absurd (none-some _ at)
   lookup_own (y ∷ ys) zero x h at = subst (λ z. lookup_by key (y ∷ ys) (key z) ≡ Some z) (some_inj at) (lookup_head y ys (key y) refl)
   lookup_own (y ∷ ys) (suc i) x h at =
       let r = lookup_own ys i x (rest_apart y ys h) at in
-      lookup_tail y ys (key x) (λ e. none_some (sym (fresh y ys h) ∙ (ap (lookup_by key ys) e ∙ r))) ∙ r
+      lookup_tail y ys (key x) (λ e. none-some _ (sym (fresh y ys h) ∙ (ap (lookup_by key ys) e ∙ r))) ∙ r
 
   -- A key that is not found at an element's place is not its key.
   pub other_key : (xs : List X) (i : ℕ) (x : X) (k : ℕ) → apart key xs ≡ true → slice_get xs i ≡ Some x → lookup_by key xs k ≡ None → key x ≡ k → ⊥
-  other_key xs i x k h at none e = none_some (sym none ∙ (ap (lookup_by key xs) (sym e) ∙ lookup_own xs i x h at))
+  other_key xs i x k h at none e = none-some _ (sym none ∙ (ap (lookup_by key xs) (sym e) ∙ lookup_own xs i x h at))
 
   -- An element replaced by one with the same key.
   pub lookup_set : (xs : List X) (i : ℕ) (x x' : X) → apart key xs ≡ true → slice_get xs i ≡ Some x → key x' ≡ key x → (k : ℕ) → lookup_by key (set xs i x') k ≡ put (key x) (Some x') (lookup_by key xs) k
-  lookup_set [] i x x' h at e k = absurd (none_some at)
+  lookup_set [] i x x' h at e k = absurd (none-some _ at)
   lookup_set (y ∷ ys) zero x x' h at e k = ⊎_elim here away (cases_eq (key x) k)
     where
       same : y ≡ x
@@ -112,7 +112,7 @@ module _ {X : Type 0} (key : X → ℕ) where
           lookup_tail y (set ys i x') k n ∙ (r ∙ ap (λ z. cond (eqb (key x) k) (Some x') z) (sym (lookup_tail y ys k n)))
 
   pub apart_set : (xs : List X) (i : ℕ) (x x' : X) → apart key xs ≡ true → slice_get xs i ≡ Some x → key x' ≡ key x → apart key (set xs i x') ≡ true
-  apart_set [] i x x' h at e = absurd (none_some at)
+  apart_set [] i x x' h at e = absurd (none-some _ at)
   apart_set (y ∷ ys) zero x x' h at e =
       subst (λ k. (not (present (lookup_by key ys k)) && apart key ys) ≡ true) (ap key (some_inj at) ∙ sym e) h
   apart_set (y ∷ ys) (suc i) x x' h at e =
@@ -126,7 +126,7 @@ module _ {X : Type 0} (key : X → ℕ) where
   lookup_push (y ∷ ys) x h k = ⊎_elim here (away (lookup_push ys x (sym (lookup_tail y ys (key x) apart_from) ∙ h) k)) (cases_eq (key y) k)
     where
       apart_from : key y ≡ key x → ⊥
-      apart_from e = none_some (sym h ∙ lookup_head y ys (key x) e)
+      apart_from e = none-some _ (sym h ∙ lookup_head y ys (key x) e)
 
       here : key y ≡ k → lookup_by key (y ∷ (ys ++ x ∷ [])) k ≡ put (key x) (Some x) (lookup_by key (y ∷ ys)) k
       here q =
@@ -144,7 +144,7 @@ module _ {X : Type 0} (key : X → ℕ) where
       (apart_push ys x (rest_apart y ys h) (sym (lookup_tail y ys (key x) apart_from) ∙ none))
     where
       apart_from : key y ≡ key x → ⊥
-      apart_from e = none_some (sym none ∙ lookup_head y ys (key x) e)
+      apart_from e = none-some _ (sym none ∙ lookup_head y ys (key x) e)
 
   -- The front of a list with an element behind: its last key is not in front.
   pub apart_front : (xs : List X) (x : X) → apart key (xs ++ x ∷ []) ≡ true → (apart key xs ≡ true) × (lookup_by key xs (key x) ≡ None)
@@ -152,14 +152,14 @@ module _ {X : Type 0} (key : X → ℕ) where
   apart_front (y ∷ ys) x h =
       let r = apart_front ys x (rest_apart y (ys ++ x ∷ []) h) in
       let none : lookup_by key (ys ++ x ∷ []) (key y) ≡ None = fresh y (ys ++ x ∷ []) h in
-      let away : key x ≡ key y → ⊥ = λ e. none_some (sym none ∙ (lookup_push ys x r.1 (key y) ∙ (ap (λ t. cond t (Some x) (lookup_by key ys (key y))) (eq-eqb (key x) (key y) e)))) in (
+      let away : key x ≡ key y → ⊥ = λ e. none-some _ (sym none ∙ (lookup_push ys x r.1 (key y) ∙ (ap (λ t. cond t (Some x) (lookup_by key ys (key y))) (eq-eqb (key x) (key y) e)))) in (
         and_from (not (present (lookup_by key ys (key y)))) (apart key ys) (present_none (lookup_by key ys (key y)) (sym (put_other (key x) (key y) (Some x) (lookup_by key ys) away) ∙ (sym (lookup_push ys x r.1 (key y)) ∙ none))) r.0,
         lookup_tail y ys (key x) (λ e. away (sym e)) ∙ r.1,
       )
 
   -- An element replaced by one with a new key.
   pub lookup_replace : (xs : List X) (i : ℕ) (x l : X) → apart key xs ≡ true → slice_get xs i ≡ Some x → lookup_by key xs (key l) ≡ None → (k : ℕ) → lookup_by key (set xs i l) k ≡ put (key l) (Some l) (put (key x) None (lookup_by key xs)) k
-  lookup_replace [] i x l h at none k = absurd (none_some at)
+  lookup_replace [] i x l h at none k = absurd (none-some _ at)
   lookup_replace (y ∷ ys) zero x l h at none k = ap (λ z. cond (eqb (key l) k) (Some l) z) (⊎_elim here away (cases_eq (key x) k))
     where
       same : y ≡ x
@@ -174,7 +174,7 @@ module _ {X : Type 0} (key : X → ℕ) where
   lookup_replace (y ∷ ys) (suc i) x l h at none k = ⊎_elim here (away (lookup_replace ys i x l (rest_apart y ys h) at (sym (lookup_tail y ys (key l) apart_from) ∙ none) k)) (cases_eq (key y) k)
     where
       apart_from : key y ≡ key l → ⊥
-      apart_from e = none_some (sym none ∙ lookup_head y ys (key l) e)
+      apart_from e = none-some _ (sym none ∙ lookup_head y ys (key l) e)
 
       here : key y ≡ k → lookup_by key (y ∷ set ys i l) k ≡ put (key l) (Some l) (put (key x) None (lookup_by key (y ∷ ys))) k
       here q =
@@ -185,16 +185,16 @@ module _ {X : Type 0} (key : X → ℕ) where
           lookup_tail y (set ys i l) k n ∙ (r ∙ ap (λ z. cond (eqb (key l) k) (Some l) (cond (eqb (key x) k) None z)) (sym (lookup_tail y ys k n)))
 
   pub apart_replace : (xs : List X) (i : ℕ) (x l : X) → apart key xs ≡ true → slice_get xs i ≡ Some x → lookup_by key xs (key l) ≡ None → apart key (set xs i l) ≡ true
-  apart_replace [] i x l h at none = absurd (none_some at)
+  apart_replace [] i x l h at none = absurd (none-some _ at)
   apart_replace (y ∷ ys) zero x l h at none =
-      and_from (not (present (lookup_by key ys (key l)))) (apart key ys) (present_none (lookup_by key ys (key l)) (sym (lookup_tail y ys (key l) (λ e. none_some (sym none ∙ lookup_head y ys (key l) e))) ∙ none)) (rest_apart y ys h)
+      and_from (not (present (lookup_by key ys (key l)))) (apart key ys) (present_none (lookup_by key ys (key l)) (sym (lookup_tail y ys (key l) (λ e. none-some _ (sym none ∙ lookup_head y ys (key l) e))) ∙ none)) (rest_apart y ys h)
   apart_replace (y ∷ ys) (suc i) x l h at none =
       and_from (not (present (lookup_by key (set ys i l) (key y)))) (apart key (set ys i l))
       (present_none (lookup_by key (set ys i l) (key y)) (lookup_replace ys i x l (rest_apart y ys h) at (sym (lookup_tail y ys (key l) apart_from) ∙ none) (key y) ∙ (put_other (key l) (key y) (Some l) (put (key x) None (lookup_by key ys)) (λ e. apart_from (sym e)) ∙ (put_other (key x) (key y) None (lookup_by key ys) (other_key ys i x (key y) (rest_apart y ys h) at (fresh y ys h)) ∙ fresh y ys h))))
       (apart_replace ys i x l (rest_apart y ys h) at (sym (lookup_tail y ys (key l) apart_from) ∙ none))
     where
       apart_from : key y ≡ key l → ⊥
-      apart_from e = none_some (sym none ∙ lookup_head y ys (key l) e)
+      apart_from e = none-some _ (sym none ∙ lookup_head y ys (key l) e)
 
   -- As many keys are found as there are elements.
   pub count_keys : (n : ℕ) (xs : List X) → apart key xs ≡ true → ((i : ℕ) (x : X) → slice_get xs i ≡ Some x → key x < n) → count_below n (λ k. present (lookup_by key xs k)) ≡ length xs
@@ -229,19 +229,19 @@ module _ {X : Type 0} (key : X → ℕ) where
 
 -- The front of a list and the element behind it.
 pub take_last : {X : Type 0} (xs : List X) (n : ℕ) (x : X) → slice_get xs n ≡ Some x → take (suc n) xs ≡ take n xs ++ x ∷ []
-take_last [] n x h = absurd (none_some h)
+take_last [] n x h = absurd (none-some _ h)
 take_last (y ∷ ys) zero x h = ap (λ z. z ∷ []) (some_inj h)
 take_last (y ∷ ys) (suc n) x h = ap (λ zs. y ∷ zs) (take_last ys n x h)
 
 nth_front : {X : Type 0} (xs : List X) (n i : ℕ) (x : X) → i < n → slice_get (take (suc n) xs) i ≡ Some x → slice_get (take n xs) i ≡ Some x
 nth_front xs zero i x l h = absurd (omega arith)
-nth_front [] (suc n) i x l h = absurd (none_some h)
+nth_front [] (suc n) i x l h = absurd (none-some _ h)
 nth_front (y ∷ ys) (suc n) zero x l h = h
 nth_front (y ∷ ys) (suc n) (suc i) x l h = nth_front ys n i x (omega arith) h
 
 nth_whole : {X : Type 0} (xs : List X) (n i : ℕ) (x : X) → slice_get (take n xs) i ≡ Some x → slice_get xs i ≡ Some x
-nth_whole xs zero i x h = absurd (none_some h)
-nth_whole [] (suc n) i x h = absurd (none_some h)
+nth_whole xs zero i x h = absurd (none-some _ h)
+nth_whole [] (suc n) i x h = absurd (none-some _ h)
 nth_whole (y ∷ ys) (suc n) zero x h = h
 nth_whole (y ∷ ys) (suc n) (suc i) x h = nth_whole ys n i x h
 

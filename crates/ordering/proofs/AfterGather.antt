@@ -1,4 +1,6 @@
 -- A gather: no standing changes, and the final timestamp that the last one fixes is the greatest answer of the hears.
+use Rattle.std.proofs.lemmas.Bool.{false≢true}
+use Rattle.std.proofs.lemmas.Option.{none-some}
 use Rattle.std.proofs.Common.{◌≡◌, ℕ, suc, ◌<◌, ◌≤◌, Bool, true, false, cond, not, ◌||◌, List, Some, None, sym, refl, ap, ◌∙◌, subst, arith}
 use Rattle.machine.specs.Kinds.{Kind}
 use Rattle.ordering.specs.declared.calls.Phase.{Phase}
@@ -10,7 +12,7 @@ use Rattle.ordering.specs.Ordering.{greatest_answer, answer, has}
 use Rattle.ordering.specs.Searches.{names}
 use Rattle.ordering.specs.Steps.{gathered_now, with_phase, with_fixed, final_of}
 use Rattle.ordering.proofs.Accepted.{Reached}
-use Rattle.ordering.proofs.Basics.{some_inj, none_some, false_true}
+use Rattle.ordering.proofs.Basics.{some_inj}
 use Rattle.ordering.proofs.Bounded.{all_each, greatest_same}
 use Rattle.ordering.proofs.Moving.{phases_moved, sent_moved, table_cases}
 use Rattle.ordering.proofs.Standing.{Inv, phase_here, agree_here}
@@ -48,11 +50,11 @@ module _ (K : Kind) (a : Account) (b : Book) (cells : ℕ → List ℕ) (h : Inv
 
   -- what is gathered everywhere has as proposals the answers of its hears
   answered : (p : Phase) (s : Stage) → Agree p s → is_gathered p ≡ true → proposal p ≡ answer s.heard
-  answered Sent s g e = absurd (false_true e)
-  answered (Heard u) s g e = absurd (false_true e)
+  answered Sent s g e = absurd (false≢true e)
+  answered (Heard u) s g e = absurd (false≢true e)
   answered (Gathered u) s g e = sym (ap answer g.0)
-  answered Settled s g e = absurd (false_true e)
-  answered Run s g e = absurd (false_true e)
+  answered Settled s g e = absurd (false≢true e)
+  answered Run s g e = absurd (false≢true e)
 
   fixed_greatest : everywhere is_gathered gathering ≡ true → greatest_proposal gathering ≡ greatest_answer a k
   fixed_greatest all =
@@ -82,7 +84,7 @@ module _ (K : Kind) (a : Account) (b : Book) (cells : ℕ → List ℕ) (h : Inv
     where
       by_all : (f : ℕ) (e : Bool) → everywhere is_gathered gathering ≡ e → cond e (Some (greatest_proposal gathering)) None ≡ Some f → f ≡ greatest_answer a k
       by_all f true all q = sym (some_inj q) ∙ fixed_greatest all
-      by_all f false all q = absurd (none_some q)
+      by_all f false all q = absurd (none-some _ q)
 
       here : (f : ℕ) (x : OpenCommand) → Some (with_fixed gathering (final_of gathering)) ≡ Some x → x.fixed ≡ Some f → f ≡ greatest_answer a k
       here f x q e = by_all f (everywhere is_gathered gathering) refl (ap (λ y. y.fixed) (some_inj q) ∙ e)

@@ -1,6 +1,7 @@
 -- A run: what is ready is earlier than every conflicting command that is heard and unrun, so the past stays the past.
+use Rattle.std.proofs.lemmas.Option.{none-some}
 use Rattle.std.proofs.Common.{◌≡◌, ℕ, suc, ◌<◌, Bool, true, false, cond, not, ◌||◌, eqb, List, ◌∷◌, Some, None, sym, refl, ap, ◌∙◌, subst, ⊎_elim, arith}
-use Rattle.std.proofs.lemmas.Bool.{cases_eq, eq-eqb, ne_eqb, or_left}
+use Rattle.std.proofs.lemmas.Bool.{cases_eq, eq-eqb, ne_eqb, or_left, false≢true}
 use Rattle.machine.specs.Kinds.{Kind, Laws}
 use Rattle.ordering.specs.declared.calls.Phase.{Phase}
 use Rattle.ordering.specs.declared.calls.Phase.TheVariants.{Sent, Heard, Gathered, Settled, Run}
@@ -11,7 +12,7 @@ use Rattle.ordering.specs.Ordering.{Earlier, greatest_answer, has}
 use Rattle.ordering.specs.Searches.{put, names, earlier}
 use Rattle.ordering.specs.Steps.{with_phase, with_command, left, passes, passes_at}
 use Rattle.ordering.proofs.AtMember.{AtMember, Clash}
-use Rattle.ordering.proofs.Basics.{some_inj, none_some, false_true, put_same, put_other}
+use Rattle.ordering.proofs.Basics.{some_inj, put_same, put_other}
 use Rattle.ordering.proofs.Bounded.{all_each}
 use Rattle.ordering.proofs.MemberSteps.{run_keeps}
 use Rattle.ordering.proofs.Moving.{phases_moved, sent_moved, table_cases}
@@ -21,10 +22,10 @@ use Rattle.ordering.proofs.Standing.{Inv, command_of, command_by, stand_of, phas
 use Rattle.ordering.proofs.Tied.{Tied, Moved, Agree, Stage, stage_of, phase_at, issue_of, rank, agree_moved, cost_moved}
 
 is_run_lem : (p : Phase) → is_run p ≡ true → Run ≡ p
-is_run_lem Sent e = absurd (false_true e)
-is_run_lem (Heard t) e = absurd (false_true e)
-is_run_lem (Gathered t) e = absurd (false_true e)
-is_run_lem Settled e = absurd (false_true e)
+is_run_lem Sent e = absurd (false≢true e)
+is_run_lem (Heard t) e = absurd (false≢true e)
+is_run_lem (Gathered t) e = absurd (false≢true e)
+is_run_lem Settled e = absurd (false≢true e)
 is_run_lem Run e = refl
 
 -- A command that leaves ran at each destination.
@@ -40,7 +41,7 @@ left_same : (o x : OpenCommand) → left o ≡ Some x → o ≡ x
 left_same o x = go (everywhere is_run o)
   where
     go : (t : Bool) → cond t None (Some o) ≡ Some x → o ≡ x
-    go true q = absurd (none_some q)
+    go true q = absurd (none-some _ q)
     go false q = some_inj q
 
 module _ (K : Kind) (L : Laws K) (a : Account) (b : Book) (cells : ℕ → List ℕ) (h : Inv K a b cells) (m k f : ℕ) (o : OpenCommand) (within : m < b.members) (there : b.table k ≡ Some o) (r : Ready K b m k f o) where

@@ -1,4 +1,5 @@
 -- A new line, and a send: the new number was never seen before, so nothing is known of it and nothing else changes.
+use Rattle.std.proofs.lemmas.Option.{none-some}
 use Rattle.std.proofs.Common.{◌≡◌, ℕ, suc, ◌^◌, ◌<◌, ◌≤◌, Bool, true, false, cond, eqb, List, [], Some, None, Option, sym, refl, ap, ◌∙◌, subst, arith}
 use Rattle.std.proofs.lemmas.Bool.{eqb-true}
 use Rattle.machine.specs.declared.command.Command.{Command}
@@ -11,7 +12,7 @@ use Rattle.ordering.specs.Ordering.{greatest_answer}
 use Rattle.ordering.specs.Searches.{put, names, sum_below}
 use Rattle.ordering.specs.Steps.{new_book, new_command, issue}
 use Rattle.ordering.proofs.AtMember.{AtMember}
-use Rattle.ordering.proofs.Basics.{some_inj, none_some, put_other}
+use Rattle.ordering.proofs.Basics.{some_inj, put_other}
 use Rattle.ordering.proofs.Bits.{names_below}
 use Rattle.ordering.proofs.Bounded.{sum_same}
 use Rattle.ordering.proofs.MemberSteps.{more_commands}
@@ -23,23 +24,23 @@ tied_new n last =
     record {
       agree = λ k m. (refl, refl, refl, refl);
       cost = λ k. refl;
-      sent = λ k o q. absurd (none_some q);
-      final = λ k f o q. absurd (none_some q);
-      inside = λ k m d q. absurd (none_some q);
-      numbered = λ k d q. absurd (none_some q);
+      sent = λ k o q. absurd (none-some _ q);
+      final = λ k f o q. absurd (none-some _ q);
+      inside = λ k m d q. absurd (none-some _ q);
+      numbered = λ k d q. absurd (none-some _ q);
     }
 
 pub members_new : (K : Kind) (n last m : ℕ) → AtMember K (command_of blank) (stand_of blank m) [] ((new_book n last).member m) K.starting
 members_new K n last m =
     record {
-      memory = λ k t q. absurd (none_some q);
-      truly = λ k c q. absurd (none_some q);
-      past = λ j k f t q. absurd (Rattle.ordering.proofs.Basics.false_true q);
+      memory = λ k t q. absurd (none-some _ q);
+      truly = λ k c q. absurd (none-some _ q);
+      past = λ j k f t q. absurd (Rattle.std.proofs.lemmas.Bool.false≢true q);
       ascending = tt;
       once = tt;
       entries = [];
       right = tt;
-      complete = λ k q. absurd (Rattle.ordering.proofs.Basics.false_true q);
+      complete = λ k q. absurd (Rattle.std.proofs.lemmas.Bool.false≢true q);
       rising = tt;
       same = refl;
     }
@@ -97,7 +98,7 @@ module _ (K : Kind) (a : Account) (b : Book) (cells : ℕ → List ℕ) (h : Inv
       final k f x = go (eqb (suc b.issued) k)
         where
           go : (t : Bool) → cond t (Some (new_command sender set c)) (b.table k) ≡ Some x → x.fixed ≡ Some f → f ≡ greatest_answer a k
-          go true q r = absurd (none_some (ap (λ y. y.fixed) (some_inj q) ∙ r))
+          go true q r = absurd (none-some _ (ap (λ y. y.fixed) (some_inj q) ∙ r))
           go false q r = h.tied.final k f x q r
 
       inside : (k m : ℕ) (x : Issue) → put (suc b.issued) (Some (issue_of (new_command sender set c))) a.sent_as k ≡ Some x → names x.set m ≡ true → m < member_limit
@@ -120,7 +121,7 @@ module _ (K : Kind) (a : Account) (b : Book) (cells : ℕ → List ℕ) (h : Inv
   pub members_send : (m : ℕ) → AtMember K (λ k. command_by (put (suc b.issued) (Some (record { sender = sender; set = set; command = c })) a.sent_as k)) (stand_of a m) (a.runs_at m) (b.member m) (cells m)
   members_send m =
       more_commands K (command_of a) (λ k. command_by (put (suc b.issued) (Some (record { sender = sender; set = set; command = c })) a.sent_as k)) (stand_of a m) (a.runs_at m) (b.member m) (cells m)
-      (λ k t q. other k (λ e. none_some (sym (unheard k e) ∙ q)))
+      (λ k t q. other k (λ e. none-some _ (sym (unheard k e) ∙ q)))
       (λ k y q. other k (λ e. late k e (h.sound.known m k y q)))
       (h.members m)
     where

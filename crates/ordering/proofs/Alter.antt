@@ -1,4 +1,5 @@
 -- A book stays sound when it changes at one number, if the changed command fits it, the members remember nothing new but that number, and the clocks leave room.
+use Rattle.std.proofs.lemmas.Option.{none-some}
 use Rattle.std.proofs.Common.{◌≡◌, ℕ, ◌≤◌, true, Some, None, Option, sym, refl, ap, ◌∙◌, subst, ⊎_elim, arith}
 use Rattle.std.proofs.lemmas.Bool.{cases_eq}
 use Rattle.machine.specs.declared.command.Command.{Command}
@@ -7,7 +8,7 @@ use Rattle.ordering.specs.declared.calls.Phase.TheVariants.{Sent, Heard, Gathere
 use Rattle.ordering.specs.Kept.{Roomy, Proposes, SoundCommand, Sound}
 use Rattle.ordering.specs.Lines.{OpenCommand, Member, Book}
 use Rattle.ordering.specs.Searches.{put, names, present}
-use Rattle.ordering.proofs.Basics.{none_some, absent_none, put_cases}
+use Rattle.ordering.proofs.Basics.{absent_none, put_cases}
 use Rattle.ordering.proofs.Owed.{altered}
 
 -- What a sound book says of the command with number k.
@@ -37,7 +38,7 @@ recalls_none k p r recalls j ne h = go (r.remembers j) refl
   where
     go : (x : Option Command) → r.remembers j ≡ x → x ≡ None
     go None e = refl
-    go (Some c) e = absurd (none_some (sym h ∙ recalls j c ne e))
+    go (Some c) e = absurd (none-some _ (sym h ∙ recalls j c ne e))
 
 pub proposes_map : (P Q : ℕ → Type 0) → ((t : ℕ) → P t → Q t) → (p : Phase) → Proposes p P → Proposes p Q
 proposes_map P Q f Sent h = tt

@@ -1,4 +1,5 @@
 -- The ordering theorem, by induction on the list of calls.
+use Rattle.std.proofs.lemmas.Option.{none-some}
 use Rattle.std.proofs.Common.{◌≡◌, ℕ, suc, ◌≤◌, List, [], ◌∷◌, Ok, Err, Option, sym, refl, ap, ◌∙◌, subst}
 use Rattle.machine.specs.declared.command.Command.{Command}
 use Rattle.machine.specs.Kinds.{Kind, Laws}
@@ -16,7 +17,6 @@ use Rattle.ordering.proofs.AfterHear.{tied_hear, members_hear}
 use Rattle.ordering.proofs.AfterRun.{tied_run, members_run}
 use Rattle.ordering.proofs.AfterSend.{tied_new, members_new, tied_send, members_send}
 use Rattle.ordering.proofs.AfterSettle.{tied_settle, members_settle}
-use Rattle.ordering.proofs.Basics.{none_some}
 use Rattle.ordering.proofs.Progress.{next_step_lem}
 use Rattle.ordering.proofs.Reading.{cells_fed, in_order}
 use Rattle.ordering.proofs.Ready.{earliest_found, ready_facts}
@@ -131,7 +131,7 @@ ordered_closed K L w p q =
       cells = cells_fed K (read w.history) first w.cells h;
       order = in_order K (read w.history) first w.cells h L;
       once = λ m. (h.members m).once;
-      progress = λ k m d sent. absurd (none_some (sym (ap (λ a. a.sent_as k) p) ∙ sent));
+      progress = λ k m d sent. absurd (none-some _ (sym (ap (λ a. a.sent_as k) p) ∙ sent));
       cost = spent (read w.history) first h.tied;
     }
   where

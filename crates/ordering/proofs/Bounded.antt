@@ -1,8 +1,7 @@
 -- What a search, a sum or a greatest value over the numbers below a bound says of each of them: always by going one number up.
 use Rattle.std.proofs.Common.{◌≡◌, ℕ, zero, suc, ◌+◌, ◌<◌, ◌≤◌, Bool, true, false, ◌&&◌, ◌||◌, sym, refl, ap, ◌∙◌, subst, ⊎_elim, arith}
-use Rattle.std.proofs.lemmas.Bool.{and_parts, and_from, or_parts, cases_eq}
+use Rattle.std.proofs.lemmas.Bool.{and_parts, and_from, or_parts, cases_eq, false≢true}
 use Rattle.ordering.specs.Searches.{any_below, all_below, sum_below, greatest_below}
-use Rattle.ordering.proofs.Basics.{false_true}
 
 -- What holds of n and of every number below n holds of every number below suc n.
 pub below_more : (n : ℕ) (P : ℕ → Type 0) → P n → ((k : ℕ) → k < n → P k) → (k : ℕ) → k < suc n → P k
@@ -11,7 +10,7 @@ below_more n P here below k h = ⊎_elim (λ e. subst P e here) (λ ne. below k 
 -- Tests
 
 pub any_found : (n : ℕ) (f : ℕ → Bool) → any_below n f ≡ true → (k : ℕ) × (k < n) × (f k ≡ true)
-any_found zero f h = absurd (false_true h)
+any_found zero f h = absurd (false≢true h)
 any_found (suc n) f h = go (any_found n f) (f n) refl h
   where
     go : (any_below n f ≡ true → (k : ℕ) × (k < n) × (f k ≡ true)) → (t : Bool) → f n ≡ t → (t || any_below n f) ≡ true → (k : ℕ) × (k < suc n) × (f k ≡ true)
@@ -35,7 +34,7 @@ all_from zero f h = refl
 all_from (suc n) f h = and_from (f n) (all_below n f) (h n (omega arith)) (all_from n f (λ k i. h k (omega arith)))
 
 pub all_not : (n : ℕ) (f : ℕ → Bool) → all_below n f ≡ false → (k : ℕ) × (k < n) × (f k ≡ false)
-all_not zero f h = absurd (false_true (sym h))
+all_not zero f h = absurd (false≢true (sym h))
 all_not (suc n) f h = go (all_not n f) (f n) refl h
   where
     go : (all_below n f ≡ false → (k : ℕ) × (k < n) × (f k ≡ false)) → (t : Bool) → f n ≡ t → (t && all_below n f) ≡ false → (k : ℕ) × (k < suc n) × (f k ≡ false)
@@ -48,7 +47,7 @@ all_fails n f k i e = go (all_below n f) refl
   where
     go : (t : Bool) → all_below n f ≡ t → t ≡ false
     go false h = refl
-    go true h = absurd (false_true (sym e ∙ all_each n f h k i))
+    go true h = absurd (false≢true (sym e ∙ all_each n f h k i))
 
 -- The greatest value
 

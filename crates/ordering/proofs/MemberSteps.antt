@@ -1,6 +1,7 @@
 -- A hear, a settle and a run at one member keep what holds there.
+use Rattle.std.proofs.lemmas.Option.{none-some}
 use Rattle.std.proofs.Common.{◌≡◌, ℕ, suc, ◌<◌, ◌≤◌, Bool, true, false, cond, not, ◌&&◌, eqb, ltb, ◌⊎◌, List, [], ◌∷◌, Some, None, Option, sym, refl, ap, ◌∙◌, subst, inl, inr, ⊎_elim, arith}
-use Rattle.std.proofs.lemmas.Bool.{or_parts, or_left, or_right, or_cases, eqb-true, eqb-false, eq-eqb, ltb-true, ltb-false}
+use Rattle.std.proofs.lemmas.Bool.{or_parts, or_left, or_right, or_cases, eqb-true, eqb-false, eq-eqb, ltb-true, ltb-false, false≢true}
 use Rattle.machine.specs.declared.command.Command.{Command}
 use Rattle.machine.specs.Kinds.{Kind, Laws}
 use Rattle.ordering.specs.Lines.{Member}
@@ -8,7 +9,7 @@ use Rattle.ordering.specs.Ordering.{Earlier, has, Entry, pair_of, Listed, Each}
 use Rattle.ordering.specs.Searches.{put, present, any_below}
 use Rattle.ordering.specs.Steps.{hearer, must_rise, is_full, clashes, risen, remember, settler}
 use Rattle.ordering.proofs.AtMember.{AtMember, Clash, Ascending, EntryAt}
-use Rattle.ordering.proofs.Basics.{some_inj, none_some, false_true, put_same, put_other, put_cases}
+use Rattle.ordering.proofs.Basics.{some_inj, put_same, put_other, put_cases}
 use Rattle.ordering.proofs.Bounded.{any_none}
 use Rattle.ordering.proofs.Feeding.{insert, each_map, each_insert, listed_new, listed_old, rising_insert, Passable, plain_insert}
 use Rattle.ordering.proofs.Pairs.{prior_earlier, earlier_prior, earlier_not}
@@ -20,7 +21,7 @@ clash_sym K L (Some c) (Some d) h = L.symmetric d c ∙ h
 
 -- Whoever is in a list is not one who is out of it.
 pub has_apart : (j k : ℕ) (js : List ℕ) → has j js ≡ true → has k js ≡ false → j ≡ k → ⊥
-has_apart j k js h g e = false_true (sym g ∙ subst (λ i. has i js ≡ true) e h)
+has_apart j k js h g e = false≢true (sym g ∙ subst (λ i. has i js ≡ true) e h)
 
 -- A list of what ran sees only where those stand.
 pub ascending_stand : (K : Kind) (cmd : ℕ → Option Command) (stand stand' : ℕ → Option ℕ) (js : List ℕ) → ((k : ℕ) → has k js ≡ true → stand' k ≡ stand k) → Ascending K cmd stand js → Ascending K cmd stand' js
@@ -47,7 +48,7 @@ hear_guarantee K cmd stand issued j c p memory known is k t at clash = go (must_
     found None e h r = h
     found (Some d) e h r =
         let quiet = any_none (suc issued) (λ i. clashes K c (p.remembers i)) (or_parts (is_full issued p) (any_below (suc issued) (λ i. clashes K c (p.remembers i))) r).1 k (omega (arith, known k d e)) in
-        false_true (sym quiet ∙ (ap (clashes K c) e ∙ h))
+        false≢true (sym quiet ∙ (ap (clashes K c) e ∙ h))
 
     below : must_rise K issued c p ≡ false → t ≡ p.clock → ⊥
     below r e =
@@ -97,7 +98,7 @@ hear_keeps K L cmd stand runs p cells issued j c known is out h =
     kept_true k d = go (must_rise K issued c p)
       where
         go : (r : Bool) → (cond r (risen p) p).remembers k ≡ Some d → cmd k ≡ Some d
-        go true e = absurd (none_some e)
+        go true e = absurd (none-some _ e)
         go false e = h.truly k d e
 
     here : (k t : ℕ) → j ≡ k → Some now ≡ Some t → (t ≤ now) × (t ≡ now → put j (Some c) kept k ≡ cmd k)
@@ -132,7 +133,7 @@ settling issued j c f p truly = by_clock (ltb p.clock f) refl
           reaches = omega arith;
           keeps_own = λ e. put_same j (Some c) (λ i. None);
           keeps_others = λ k ne e. absurd (omega (arith, l, e));
-          adds_own = λ k d. put_cases j k (Some c) (λ i. None) (λ x. x ≡ Some d → (p.remembers k ≡ Some d) ⊎ ((j ≡ k) × (c ≡ d))) (λ e q. inr (e, some_inj q)) (λ ne q. absurd (none_some q));
+          adds_own = λ k d. put_cases j k (Some c) (λ i. None) (λ x. x ≡ Some d → (p.remembers k ≡ Some d) ⊎ ((j ≡ k) × (c ≡ d))) (λ e q. inr (e, some_inj q)) (λ ne q. absurd (none-some _ q));
         }
 
     lifted : f ≤ p.clock → Settling j c f p (risen p)
@@ -142,7 +143,7 @@ settling issued j c f p truly = by_clock (ltb p.clock f) refl
           reaches = omega (arith, l);
           keeps_own = λ e. absurd (omega (arith, l, e));
           keeps_others = λ k ne e. absurd (omega (arith, e));
-          adds_own = λ k d q. absurd (none_some q);
+          adds_own = λ k d q. absurd (none-some _ q);
         }
 
     added : f ≤ p.clock → Settling j c f p (remember j c p)
@@ -164,7 +165,7 @@ settling issued j c f p truly = by_clock (ltb p.clock f) refl
     by_room l false = added l
 
     there : (x : Option Command) → p.remembers j ≡ x → not (present x) ≡ false → p.remembers j ≡ Some c
-    there None e h = absurd (false_true (sym h))
+    there None e h = absurd (false≢true (sym h))
     there (Some d) e h = e ∙ ap Some (sym (truly d e))
 
     quiet : (eqb f p.clock && not (present (p.remembers j))) ≡ false → f ≡ p.clock → p.remembers j ≡ Some c

@@ -1,4 +1,5 @@
 -- A member that hears or settles remembers nothing new but that command, and its clock rises by at most one, or to the final timestamp.
+use Rattle.std.proofs.lemmas.Option.{none-some}
 use Rattle.std.proofs.Common.{◌≡◌, ℕ, suc, ◌≤◌, Bool, true, false, cond, not, ◌&&◌, eqb, ltb, Some, None, arith}
 use Rattle.machine.specs.declared.command.Command.{Command}
 use Rattle.machine.specs.Kinds.{Kind}
@@ -6,7 +7,7 @@ use Rattle.ordering.specs.Lines.{Member}
 use Rattle.ordering.specs.Searches.{put, present}
 use Rattle.ordering.specs.Steps.{must_rise, is_full, risen, remember, hearer, settler}
 use Rattle.ordering.proofs.Alter.{Recalls}
-use Rattle.ordering.proofs.Basics.{none_some, put_cases}
+use Rattle.ordering.proofs.Basics.{put_cases}
 
 -- The command with number k is put to what was remembered, or to nothing.
 remembered : (k : ℕ) (c : Command) (p r : Member) → Recalls k p r → Recalls k p (remember k c r)
@@ -14,7 +15,7 @@ remembered k c p r recalls j d ne =
     put_cases k j (Some c) r.remembers (λ x. x ≡ Some d → p.remembers j ≡ Some d) (λ same. absurd (ne same)) (λ away h. recalls j d ne h)
 
 forgotten : (k : ℕ) (p : Member) → Recalls k p (risen p)
-forgotten k p j d ne h = absurd (none_some h)
+forgotten k p j d ne h = absurd (none-some _ h)
 
 pub hearer_recalls : (K : Kind) (n k : ℕ) (c : Command) (p : Member) → Recalls k p (hearer K n k c p)
 hearer_recalls K n k c p = remembered k c p (cond (must_rise K n c p) (risen p) p) (go (must_rise K n c p))

@@ -7,7 +7,6 @@ use Rattle.ordering.specs.declared.calls.Phase.TheVariants.{Sent}
 use Rattle.ordering.specs.Histories.{Account, put_twice}
 use Rattle.ordering.specs.Lines.{OpenCommand, Book}
 use Rattle.ordering.specs.Searches.{put, names}
-use Rattle.ordering.proofs.Basics.{some_inj, put_same, put_other}
 use Rattle.ordering.proofs.Tied.{Tied, phase_of, phase_by, phase_at, issue_of}
 
 -- The table with e at k, where the command o stood, and e has o's phases but p at m.
@@ -17,7 +16,7 @@ module _ (a : Account) (b : Book) (k m : ℕ) (o : OpenCommand) (p : Phase) (e :
     where
       by_member : (t : Bool) → eqb m q ≡ t → (u : Bool) → names o.set q ≡ u → cond u (phase_at e q) Sent ≡ cond t p (cond u (o.phase q) Sent)
       by_member true i true n = like q n ∙ ap (λ t. cond t p (o.phase q)) i
-      by_member true i false n = absurd (Rattle.ordering.proofs.Basics.false_true (sym n ∙ subst (λ x. names o.set x ≡ true) (eqb-true m q i) to))
+      by_member true i false n = absurd (Rattle.std.proofs.lemmas.Bool.false≢true (sym n ∙ subst (λ x. names o.set x ≡ true) (eqb-true m q i) to))
       by_member false i true n = like q n ∙ ap (λ t. cond t p (o.phase q)) i
       by_member false i false n = refl
 

@@ -1,6 +1,7 @@
 -- An open command is sound by itself when it is sent, and stays so when one destination goes to its next phase.
+use Rattle.std.proofs.lemmas.Option.{none-some}
 use Rattle.std.proofs.Common.{◌≡◌, ℕ, ◌^◌, ◌<◌, ◌≤◌, Bool, true, false, cond, not, ◌||◌, Some, None, Option, sym, refl, ap, ◌∙◌, ⊎_elim, arith}
-use Rattle.std.proofs.lemmas.Bool.{both_ways, or_from, or_cases, not-true, not_from_true}
+use Rattle.std.proofs.lemmas.Bool.{both_ways, or_from, or_cases, not-true, not_from_true, false≢true}
 use Rattle.machine.specs.declared.command.Command.{Command}
 use Rattle.ordering.specs.declared.calls.Phase.{Phase}
 use Rattle.ordering.specs.declared.calls.Phase.TheVariants.{Sent, Heard, Gathered, Settled, Run}
@@ -9,12 +10,12 @@ use Rattle.ordering.specs.Limits.{member_limit}
 use Rattle.ordering.specs.Lines.{OpenCommand, is_gathered, is_run, everywhere, proposal, greatest_proposal}
 use Rattle.ordering.specs.Searches.{put, names, present}
 use Rattle.ordering.specs.Steps.{with_phase, with_fixed, new_command, final_of, left}
-use Rattle.ordering.proofs.Basics.{none_some, some_inj, false_true, put_same, put_cases}
+use Rattle.ordering.proofs.Basics.{some_inj, put_same, put_cases}
 use Rattle.ordering.proofs.Bits.{names_below, names_some}
 use Rattle.ordering.proofs.Bounded.{all_each, all_fails, greatest_least}
 
 pub present_some : {X : Type 0} (e : Option X) → present e ≡ true → (x : X) × (e ≡ Some x)
-present_some None h = absurd (false_true h)
+present_some None h = absurd (false≢true h)
 present_some (Some x) h = (x, refl)
 
 -- What holds everywhere holds at a destination.
@@ -36,21 +37,21 @@ final_cases o f = go (everywhere is_gathered o)
   where
     go : (t : Bool) → cond t (Some (greatest_proposal o)) None ≡ Some f → (t ≡ true) × (greatest_proposal o ≡ f)
     go true h = (refl, some_inj h)
-    go false h = absurd (none_some h)
+    go false h = absurd (none-some _ h)
 
 unfixed : (o : OpenCommand) → final_of o ≡ None → everywhere is_gathered o ≡ false
 unfixed o = go (everywhere is_gathered o)
   where
     go : (t : Bool) → cond t (Some (greatest_proposal o)) None ≡ None → t ≡ false
-    go true h = absurd (none_some (sym h))
+    go true h = absurd (none-some _ (sym h))
     go false h = refl
 
 gathered_past : (p : Phase) → is_gathered p ≡ true → is_past p ≡ true
-gathered_past Sent h = absurd (false_true h)
-gathered_past (Heard t) h = absurd (false_true h)
+gathered_past Sent h = absurd (false≢true h)
+gathered_past (Heard t) h = absurd (false≢true h)
 gathered_past (Gathered t) h = refl
-gathered_past Settled h = absurd (false_true h)
-gathered_past Run h = absurd (false_true h)
+gathered_past Settled h = absurd (false≢true h)
+gathered_past Run h = absurd (false≢true h)
 
 -- What bounds every proposal bounds the greatest.
 proposed_room : (P : ℕ → Type 0) → P 0 → (p : Phase) → Proposes p P → P (proposal p)
@@ -72,7 +73,7 @@ pub left_cases : (o x : OpenCommand) → left o ≡ Some x → (x ≡ o) × (eve
 left_cases o x = go (everywhere is_run o)
   where
     go : (t : Bool) → cond t None (Some o) ≡ Some x → (x ≡ o) × (t ≡ false)
-    go true h = absurd (none_some h)
+    go true h = absurd (none-some _ h)
     go false h = (sym (some_inj h), refl)
 
 -- A new command has a destination, which is sent.
@@ -83,9 +84,9 @@ command_sent n sender set c few some below =
     record {
       some = some;
       below = below;
-      gathered = λ f q h at. absurd (none_some h);
+      gathered = λ f q h at. absurd (none-some _ h);
       waiting = λ h. fails_there is_gathered (new_command sender set c) d.0 (omega arith) d.2 refl;
-      settled = λ q at h. absurd (false_true h);
+      settled = λ q at h. absurd (false≢true h);
       unrun = fails_there is_run (new_command sender set c) d.0 (omega arith) d.2 refl;
     }
 
@@ -135,7 +136,7 @@ module _ (n : ℕ) (few : n ≤ member_limit) (o : OpenCommand) (s : SoundComman
         some = s.some;
         below = s.below;
         gathered = λ g q h at. put_cases m q p o.phase (λ x. is_past x ≡ true) (λ same. past) (λ ne. s.gathered g q h at);
-        waiting = λ h. absurd (none_some (sym h ∙ fixed));
+        waiting = λ h. absurd (none-some _ (sym h ∙ fixed));
         settled = λ q at h. ap present fixed;
         unrun = unrun;
       }

@@ -1,6 +1,7 @@
 -- There is always a next step: hear what is sent, gather what is heard, settle what is gathered, else the least pair is ready.
+use Rattle.std.proofs.lemmas.Option.{none-some}
 use Rattle.std.proofs.Common.{◌≡◌, ℕ, suc, ◌<◌, ◌≤◌, Bool, true, false, cond, not, ◌&&◌, ◌||◌, eqb, Some, None, Ok, Err, Option, sym, refl, ap, ◌∙◌, subst, ⊎_elim, arith}
-use Rattle.std.proofs.lemmas.Bool.{lt-ltb, cases_eq, eq-eqb, or_left, or_right, or_parts, not-false, and_parts}
+use Rattle.std.proofs.lemmas.Bool.{lt-ltb, cases_eq, eq-eqb, or_left, or_right, or_parts, not-false, and_parts, false≢true}
 use Rattle.machine.specs.declared.command.Command.{Command}
 use Rattle.machine.specs.Kinds.{Kind}
 use Rattle.ordering.specs.declared.calls.Call.TheVariants.{Hear, Gather, Settle, Run as RunCall}
@@ -16,7 +17,7 @@ use Rattle.ordering.specs.Ordering.{To, RanAt, NextStep}
 use Rattle.ordering.specs.Searches.{Pair, names, any_below, earlier, earliest_below}
 use Rattle.ordering.specs.Steps.{demand, destined, reach, hear, hear_at, hear_in, gather, gather_at, gather_in, settle, settle_at, settle_in, run_earliest, run_taken, ready_at, ready_if, settled_as, final_if, passes, passes_at, heard_now, hearer, gathered_now, settled_now, settler, with_phase}
 use Rattle.ordering.specs.Worlds.{book_turn, run_turn}
-use Rattle.ordering.proofs.Basics.{some_inj, none_some, false_true}
+use Rattle.ordering.proofs.Basics.{some_inj}
 use Rattle.ordering.proofs.Bits.{names_below}
 use Rattle.ordering.proofs.Bounded.{any_found, any_none, all_not, all_from}
 use Rattle.ordering.proofs.Pairs.{prior_earlier, true_earlier}
@@ -91,9 +92,9 @@ module _ (K : Kind) (b : Book) (s : Sound b) where
       wait : x.o.fixed ≡ None → (q : ℕ) → names x.o.set q ≡ true → (p : Phase) → x.o.phase q ≡ p → is_gathered p ≡ false → NextStep K (opened b)
       wait unfixed q to Sent e g = hear_next (record { number = x.number; member = q; o = x.o; there = x.there; to = to }) e
       wait unfixed q to (Heard u) e g = gather_next (record { number = x.number; member = q; o = x.o; there = x.there; to = to }) u e
-      wait unfixed q to (Gathered u) e g = absurd (false_true (sym g))
-      wait unfixed q to Settled e g = absurd (none_some (sym unfixed ∙ (fixed_by_settled b x.number q x.o s x.there to (ap is_settled e)).1))
-      wait unfixed q to Run e g = absurd (none_some (sym unfixed ∙ (fixed_by_settled b x.number q x.o s x.there to (ap is_settled e)).1))
+      wait unfixed q to (Gathered u) e g = absurd (false≢true (sym g))
+      wait unfixed q to Settled e g = absurd (none-some _ (sym unfixed ∙ (fixed_by_settled b x.number q x.o s x.there to (ap is_settled e)).1))
+      wait unfixed q to Run e g = absurd (none-some _ (sym unfixed ∙ (fixed_by_settled b x.number q x.o s x.there to (ap is_settled e)).1))
 
       by_fixed : (f : Option ℕ) → x.o.fixed ≡ f → NextStep K (opened b)
       by_fixed (Some f) e = settle_next x f t e was
@@ -117,23 +118,23 @@ module _ (K : Kind) (b : Book) (s : Sound b) where
   -- who waits is gathered, or settled, or waits for another destination
   waiting_next : (m j : ℕ) (e : Option OpenCommand) → b.table j ≡ e → waits_at m e ≡ true → NextStep K (opened b)
   unfolding waits_at is_waiting
-  waiting_next m j None e w = absurd (false_true w)
+  waiting_next m j None e w = absurd (false≢true w)
   waiting_next m j (Some o) e w =
       let parts = and_parts (names o.set m) (is_waiting (o.phase m)) w in
       go (record { number = j; member = m; o = o; there = e; to = parts.0 }) (o.phase m) refl parts.1
     where
       go : (x : Target) (p : Phase) → x.o.phase x.member ≡ p → is_waiting p ≡ true → NextStep K (opened b)
-      go x Sent q w = absurd (false_true w)
+      go x Sent q w = absurd (false≢true w)
       go x (Heard t) q w = gather_next x t q
       go x (Gathered t) q w = gathered_next x t q
-      go x Settled q w = absurd (false_true w)
-      go x Run q w = absurd (false_true w)
+      go x Settled q w = absurd (false≢true w)
+      go x Run q w = absurd (false≢true w)
 
   run_next : (m k f : ℕ) → m < b.members → k ≤ b.issued → ready_at K b m k ≡ Some f → NextStep K (opened b)
   run_next m k f inside known ready = found (earliest_some (suc b.issued) (ready_at K b m) k f (omega (arith, known)) ready)
     where
       taken : (p : Pair) → earliest_below (suc b.issued) (ready_at K b m) ≡ Some p → (e : Option OpenCommand) → b.table p.1 ≡ e → ready_if K b m p.1 e (settled_as m e) ≡ Some p.0 → NextStep K (opened b)
-      taken p first None there h = absurd (none_some h)
+      taken p first None there h = absurd (none-some _ h)
       taken p first (Some o) there h =
           record {
             call = RunCall m;
@@ -152,15 +153,15 @@ module _ (K : Kind) (b : Book) (s : Sound b) where
   settled_facts m f o h = by_name (names o.set m) refl h
     where
       by_phase : names o.set m ≡ true → (p : Phase) → o.phase m ≡ p → final_if o.fixed p ≡ Some f → (names o.set m ≡ true) × (o.phase m ≡ Settled) × (o.fixed ≡ Some f)
-      by_phase n Sent e h = absurd (none_some h)
-      by_phase n (Heard t) e h = absurd (none_some h)
-      by_phase n (Gathered t) e h = absurd (none_some h)
+      by_phase n Sent e h = absurd (none-some _ h)
+      by_phase n (Heard t) e h = absurd (none-some _ h)
+      by_phase n (Gathered t) e h = absurd (none-some _ h)
       by_phase n Settled e h = (n, e, h)
-      by_phase n Run e h = absurd (none_some h)
+      by_phase n Run e h = absurd (none-some _ h)
 
       by_name : (t : Bool) → names o.set m ≡ t → cond t (final_if o.fixed (o.phase m)) None ≡ Some f → (names o.set m ≡ true) × (o.phase m ≡ Settled) × (o.fixed ≡ Some f)
       by_name true n h = by_phase n (o.phase m) refl h
-      by_name false n h = absurd (none_some h)
+      by_name false n h = absurd (none-some _ h)
 
   -- the least settled pair passes every other command, where none waits
   least_passes : (m : ℕ) (p : Pair) (c : Command) → earliest_below (suc b.issued) (λ j. settled_as m (b.table j)) ≡ Some p → (j : ℕ) → j < suc b.issued → (e : Option OpenCommand) → b.table j ≡ e → waits_at m e ≡ false → passes K m p c j e ≡ true
@@ -182,8 +183,8 @@ module _ (K : Kind) (b : Book) (s : Sound b) where
 
       by_phase : (j ≡ p.1 → ⊥) → names o.set m ≡ true → (q : Phase) → o.phase m ≡ q → is_waiting q ≡ false → passes_at K p c o.command j (stands_by o.fixed q) ≡ true
       by_phase ne n Sent e w = refl
-      by_phase ne n (Heard t) e w = absurd (false_true (sym w))
-      by_phase ne n (Gathered t) e w = absurd (false_true (sym w))
+      by_phase ne n (Heard t) e w = absurd (false≢true (sym w))
+      by_phase ne n (Gathered t) e w = absurd (false≢true (sym w))
       by_phase ne n Settled e w = by_fixed ne o.fixed (ap (λ t. cond t (final_if o.fixed (o.phase m)) None) n ∙ ap (final_if o.fixed) e)
       by_phase ne n Run e w = refl
 
@@ -215,7 +216,7 @@ module _ (K : Kind) (b : Book) (s : Sound b) where
       least = earliest_some (suc b.issued) (λ j. settled_as x.member (b.table j)) x.number final.0 numbered own
 
       take : any_below (suc b.issued) (λ j. waits_at x.member (b.table j)) ≡ false → (p : Pair) → earliest_below (suc b.issued) (λ j. settled_as x.member (b.table j)) ≡ Some p → (e : Option OpenCommand) → b.table p.1 ≡ e → settled_as x.member e ≡ Some p.0 → NextStep K (opened b)
-      take quiet p first None there h = absurd (none_some h)
+      take quiet p first None there h = absurd (none-some _ h)
       take quiet p first (Some o) there h =
           let w = settled_facts x.member p.0 o h in
           run_next x.member p.1 p.0 inside (s.numbered p.1 o there).1

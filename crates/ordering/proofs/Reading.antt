@@ -1,6 +1,7 @@
 -- From what is kept at each member to the cells and the order of the theorem.
+use Rattle.std.proofs.lemmas.Option.{none-some}
 use Rattle.std.proofs.Common.{◌≡◌, ℕ, ◌<◌, ◌≤◌, Bool, true, false, cond, eqb, List, [], ◌∷◌, Some, None, Option, sym, refl, ap, ◌∙◌, subst, inl, inr, ⊎_elim, arith}
-use Rattle.std.proofs.lemmas.Bool.{or_cases, eqb-true}
+use Rattle.std.proofs.lemmas.Bool.{or_cases, eqb-true, false≢true}
 use Rattle.machine.specs.declared.command.Command.{Command}
 use Rattle.machine.specs.Kinds.{Kind, Laws}
 use Rattle.ordering.specs.declared.calls.Phase.{Phase}
@@ -10,7 +11,7 @@ use Rattle.ordering.specs.Limits.{member_limit}
 use Rattle.ordering.specs.Lines.{Book}
 use Rattle.ordering.specs.Ordering.{Earlier, To, has, RanAt, Before, answer, greatest_answer, Final, Entry, Right, Fed, InOrder}
 use Rattle.ordering.proofs.AtMember.{AtMember, Clash, Ascending, EntryAt}
-use Rattle.ordering.proofs.Basics.{some_inj, none_some, false_true}
+use Rattle.ordering.proofs.Basics.{some_inj}
 use Rattle.ordering.proofs.Bounded.{greatest_above}
 use Rattle.ordering.proofs.Feeding.{each_map}
 use Rattle.ordering.proofs.MemberSteps.{clash_sym}
@@ -20,21 +21,21 @@ use Rattle.ordering.proofs.Tied.{Agree, Stage, stage_of, phase_of}
 
 -- What ran was settled, and what was gathered was heard.
 agree_ran : (p : Phase) (s : Stage) → Agree p s → s.ran ≡ true → s.settled ≡ true
-agree_ran Sent s h e = absurd (false_true (sym h.3 ∙ e))
-agree_ran (Heard t) s h e = absurd (false_true (sym h.3 ∙ e))
-agree_ran (Gathered t) s h e = absurd (false_true (sym h.3 ∙ e))
-agree_ran Settled s h e = absurd (false_true (sym h.3 ∙ e))
+agree_ran Sent s h e = absurd (false≢true (sym h.3 ∙ e))
+agree_ran (Heard t) s h e = absurd (false≢true (sym h.3 ∙ e))
+agree_ran (Gathered t) s h e = absurd (false≢true (sym h.3 ∙ e))
+agree_ran Settled s h e = absurd (false≢true (sym h.3 ∙ e))
 agree_ran Run s h e = h.2
 
 agree_heard : (p : Phase) (s : Stage) → Agree p s → s.gathered ≡ true → (t : ℕ) × (s.heard ≡ Some t)
-agree_heard Sent s h e = absurd (false_true (sym h.1 ∙ e))
-agree_heard (Heard t) s h e = absurd (false_true (sym h.1 ∙ e))
+agree_heard Sent s h e = absurd (false≢true (sym h.1 ∙ e))
+agree_heard (Heard t) s h e = absurd (false≢true (sym h.1 ∙ e))
 agree_heard (Gathered t) s h e = (t, h.0)
 agree_heard Settled s h e = h.0
 agree_heard Run s h e = h.0
 
 command_issue : (x : Option Issue) (c : Command) → command_by x ≡ Some c → (d : Issue) × (x ≡ Some d) × (d.command ≡ c)
-command_issue None c h = absurd (none_some h)
+command_issue None c h = absurd (none-some _ h)
 command_issue (Some d) c h = (d, refl, some_inj h)
 
 module _ (K : Kind) (a : Account) (b : Book) (cells : ℕ → List ℕ) (h : Inv K a b cells) where
@@ -84,7 +85,7 @@ module _ (K : Kind) (a : Account) (b : Book) (cells : ℕ → List ℕ) (h : Inv
 
   -- in what ran, the earlier of two conflicting commands lies further back
   behind : (m k j f g : ℕ) → (k ≡ j → ⊥) → stand_of a m k ≡ Some f → stand_of a m j ≡ Some g → Clash K (command_of a j) (command_of a k) → Earlier (f, k) (g, j) → (js : List ℕ) → Ascending K (command_of a) (stand_of a m) js → has k js ≡ true → has j js ≡ true → Before k j js
-  behind m k j f g ne fk gj clash early [] asc hk hj = absurd (false_true hk)
+  behind m k j f g ne fk gj clash early [] asc hk hj = absurd (false≢true hk)
   behind m k j f g ne fk gj clash early (x ∷ xs) asc hk hj =
       ⊎_elim
       (λ e. inl (eqb-true x j e, ⊎_elim (λ i. absurd (ne (sym (eqb-true x k i) ∙ eqb-true x j e))) (λ i. i) (or_cases (eqb x k) (has k xs) hk)))

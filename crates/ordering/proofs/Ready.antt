@@ -1,4 +1,5 @@
 -- The earliest pair below a bound is one that is there and none there is earlier; a command is ready exactly when it is settled here and unhindered.
+use Rattle.std.proofs.lemmas.Option.{none-some}
 use Rattle.std.proofs.Common.{◌≡◌, ℕ, zero, suc, ◌<◌, ◌≤◌, Bool, true, false, cond, ◌&&◌, eqb, ltb, Some, None, Option, sym, refl, ap, ◌∙◌, subst, ⊎_elim, arith}
 use Rattle.std.proofs.lemmas.Bool.{cond-true, cond_both, ltb-true, ltb-false, lt-ltb, eq-eqb, eqb-true, or_cases, or_parts, and_parts, and_from, both_ways}
 use Rattle.machine.specs.Kinds.{Kind}
@@ -8,7 +9,7 @@ use Rattle.ordering.specs.Lines.{OpenCommand, Book}
 use Rattle.ordering.specs.Searches.{Pair, names, earlier, earliest, stamped, earliest_below}
 use Rattle.ordering.specs.Steps.{final_if, settled_as, unhindered, ready_if, ready_at, Ran}
 use Rattle.ordering.proofs.Accepted.{RunOk}
-use Rattle.ordering.proofs.Basics.{some_inj, none_some}
+use Rattle.ordering.proofs.Basics.{some_inj}
 use Rattle.ordering.proofs.Bounded.{below_more}
 
 -- The pair is not later than that of k.
@@ -19,7 +20,7 @@ not_later : (f : ℕ → Option ℕ) (p : Pair) (k t : ℕ) → f k ≡ Some t �
 not_later f p k t e h s g = let same : t ≡ s = some_inj (sym e ∙ g) in (omega arith, λ q. omega arith)
 
 not_there : (f : ℕ → Option ℕ) (p : Pair) (k : ℕ) → f k ≡ None → NotLater f p k
-not_there f p k e t g = absurd (none_some (sym e ∙ g))
+not_there f p k e t g = absurd (none-some _ (sym e ∙ g))
 
 -- What the earliest pair is.
 abbrev Means : ℕ → (ℕ → Option ℕ) → Option Pair → Type 0
@@ -81,7 +82,7 @@ pub earliest_some : (n : ℕ) (f : ℕ → Option ℕ) (k t : ℕ) → k < n →
 earliest_some n f k t i g = go (earliest_below n f) (earliest_means n f)
   where
     go : (e : Option Pair) → Means n f e → (p : Pair) × (e ≡ Some p)
-    go None h = absurd (none_some (sym (h k i) ∙ g))
+    go None h = absurd (none-some _ (sym (h k i) ∙ g))
     go (Some p) h = (p, refl)
 
 -- The command with number k is settled at m with final timestamp f, and nothing hinders it.
@@ -96,24 +97,24 @@ ready_facts K b m k f o there h =
     named (names o.set m) refl (subst (λ e. ready_if K b m k e (settled_as m e) ≡ Some f) there h)
   where
     clear_of : (g : ℕ) (t : Bool) → unhindered K b m (g, k) o.command ≡ t → ◌≡◌ {A = Option ℕ} (cond t (Some g) None) (Some f) → (g ≡ f) × (unhindered K b m (f, k) o.command ≡ true)
-    clear_of g false e h = absurd (none_some h)
+    clear_of g false e h = absurd (none-some _ h)
     clear_of g true e h = let same : g ≡ f = some_inj h in (same, subst (λ x. unhindered K b m (x, k) o.command ≡ true) same e)
 
     final_of_lem : (x : Option ℕ) → o.fixed ≡ x → names o.set m ≡ true → o.phase m ≡ Settled → ready_if K b m k (Some o) x ≡ Some f → Ready K b m k f o
-    final_of_lem None e n w h = absurd (none_some h)
+    final_of_lem None e n w h = absurd (none-some _ h)
     final_of_lem (Some g) e n w h =
         let r = clear_of g (unhindered K b m (g, k) o.command) refl h in
         record { to = n; was = w; final = e ∙ ap Some r.0; clear = r.1 }
 
     phase_of_lem : (p : Phase) → o.phase m ≡ p → names o.set m ≡ true → ready_if K b m k (Some o) (final_if o.fixed p) ≡ Some f → Ready K b m k f o
-    phase_of_lem Sent w n h = absurd (none_some h)
-    phase_of_lem (Heard t) w n h = absurd (none_some h)
-    phase_of_lem (Gathered t) w n h = absurd (none_some h)
+    phase_of_lem Sent w n h = absurd (none-some _ h)
+    phase_of_lem (Heard t) w n h = absurd (none-some _ h)
+    phase_of_lem (Gathered t) w n h = absurd (none-some _ h)
     phase_of_lem Settled w n h = final_of_lem o.fixed refl n w h
-    phase_of_lem Run w n h = absurd (none_some h)
+    phase_of_lem Run w n h = absurd (none-some _ h)
 
     named : (t : Bool) → names o.set m ≡ t → ready_if K b m k (Some o) (cond t (final_if o.fixed (o.phase m)) None) ≡ Some f → Ready K b m k f o
-    named false e h = absurd (none_some h)
+    named false e h = absurd (none-some _ h)
     named true e h = phase_of_lem (o.phase m) refl e h
 
 pub facts_ready : (K : Kind) (b : Book) (m k f : ℕ) (o : OpenCommand) → Ready K b m k f o → b.table k ≡ Some o → ready_at K b m k ≡ Some f

@@ -1,4 +1,5 @@
 -- Every step of a sound line leads to a sound line, and so every line is sound.
+use Rattle.std.proofs.lemmas.Option.{none-some}
 use Rattle.std.proofs.Common.{◌≡◌, ℕ, suc, ◌+◌, ◌-◌, ◌*◌, ◌<◌, ◌≤◌, true, false, List, [], ◌∷◌, Some, None, Ok, Err, Option, sym, refl, ap, subst, arith}
 use Rattle.machine.specs.declared.command.Command.{Command}
 use Rattle.machine.specs.Kinds.{Kind}
@@ -16,7 +17,7 @@ use Rattle.ordering.specs.Worlds.{after, step, open_turn, book_turn, run_turn}
 use Rattle.ordering.proofs.Accepted.{open_ok, SendOk, send_ok, HearOk, hear_ok, GatherOk, gather_ok, SettleOk, settle_ok, RunOk, run_ok}
 use Rattle.ordering.proofs.Advance.{owed_advanced, sound_advanced, sound_moved}
 use Rattle.ordering.proofs.Alter.{Fits, sound_altered}
-use Rattle.ordering.proofs.Basics.{none_some, some_inj, put_cases}
+use Rattle.ordering.proofs.Basics.{some_inj, put_cases}
 use Rattle.ordering.proofs.Members.{hearer_recalls, hearer_clock, settler_recalls, settler_clock}
 use Rattle.ordering.proofs.Owed.{owed_issued, owed_new, owed_replaced, owed_phase, left_owed}
 use Rattle.ordering.proofs.Phases.{fails_here, command_sent, command_heard, command_gathered, command_later, final_cases, greatest_room, left_cases}
@@ -29,13 +30,13 @@ sound_new n last some few =
     record {
       some = some;
       few = few;
-      numbered = λ k o h. absurd (none_some h);
-      command = λ k o h. absurd (none_some h);
-      known = λ m k c h. absurd (none_some h);
-      unheard = λ m k o h. absurd (none_some h);
+      numbered = λ k o h. absurd (none-some _ h);
+      command = λ k o h. absurd (none-some _ h);
+      known = λ m k c h. absurd (none-some _ h);
+      unheard = λ m k o h. absurd (none-some _ h);
       clocks = λ m. omega arith;
-      proposals = λ k q o h. absurd (none_some h);
-      finals = λ k f o h. absurd (none_some h);
+      proposals = λ k q o h. absurd (none-some _ h);
+      finals = λ k f o h. absurd (none-some _ h);
     }
 
 pub sound_send : (b : Book) (sender set : ℕ) (c : Command) (r : ℕ × Book) → SendOk b sender set c r → Sound b → Sound r.1
@@ -69,7 +70,7 @@ sound_send b sender set c r ok s =
           command = command_sent b.members sender set c s.few ok.some ok.below;
           unheard = λ m to sent. unknown m ((b.member m).remembers (suc b.issued)) refl;
           proposals = λ q to. tt;
-          finals = λ f g. absurd (none_some g);
+          finals = λ f g. absurd (none-some _ g);
         })
 
 -- Hear and settle

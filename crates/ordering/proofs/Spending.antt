@@ -1,4 +1,5 @@
 -- The cost: each accepted step moves one destination one phase on, and there are four phases to go at each.
+use Rattle.std.proofs.lemmas.Bool.{false≢true}
 use Rattle.std.proofs.Common.{◌≡◌, ℕ, zero, suc, ◌+◌, ◌*◌, ◌<◌, ◌≤◌, Bool, true, false, cond, Some, sym, refl, ap, ◌∙◌, subst, arith}
 use Rattle.ordering.specs.declared.calls.Phase.{Phase}
 use Rattle.ordering.specs.declared.calls.Phase.TheVariants.{Sent, Heard, Gathered, Settled, Run}
@@ -7,7 +8,6 @@ use Rattle.ordering.specs.Limits.{member_limit}
 use Rattle.ordering.specs.Lines.{Book}
 use Rattle.ordering.specs.Ordering.{Cost, destination_count}
 use Rattle.ordering.specs.Searches.{names, count_below, sum_below}
-use Rattle.ordering.proofs.Basics.{false_true}
 use Rattle.ordering.proofs.Bounded.{below_more}
 use Rattle.ordering.proofs.Tied.{Tied, Agree, Stage, stage_of, phase_of, phase_by, phase_at, rank}
 
@@ -45,7 +45,7 @@ sum_full (suc n) f g r full = below_more n (λ q. g q ≡ true → f q ≡ 4) (h
   where
     here : (t : Bool) → g n ≡ t → f n + sum_below n f ≡ 4 * (cond t 1 0 + count_below n g) → g n ≡ true → f n ≡ 4
     here true e w i = omega (arith, sum_most n f g r, r.most n)
-    here false e w i = absurd (false_true (sym e ∙ i))
+    here false e w i = absurd (false≢true (sym e ∙ i))
 
     rest : (t : Bool) → g n ≡ t → f n + sum_below n f ≡ 4 * (cond t 1 0 + count_below n g) → sum_below n f ≡ 4 * count_below n g
     rest true e w = omega (arith, sum_most n f g r, r.most n)
@@ -60,10 +60,10 @@ agree_four Settled s h e = absurd (omega arith)
 agree_four Run s h e = h.3
 
 ran_four : (p : Phase) (s : Stage) → Agree p s → s.ran ≡ true → rank p ≡ 4
-ran_four Sent s h e = absurd (false_true (sym h.3 ∙ e))
-ran_four (Heard t) s h e = absurd (false_true (sym h.3 ∙ e))
-ran_four (Gathered t) s h e = absurd (false_true (sym h.3 ∙ e))
-ran_four Settled s h e = absurd (false_true (sym h.3 ∙ e))
+ran_four Sent s h e = absurd (false≢true (sym h.3 ∙ e))
+ran_four (Heard t) s h e = absurd (false≢true (sym h.3 ∙ e))
+ran_four (Gathered t) s h e = absurd (false≢true (sym h.3 ∙ e))
+ran_four Settled s h e = absurd (false≢true (sym h.3 ∙ e))
 ran_four Run s h e = refl
 
 pub spent : (a : Account) (b : Book) → Tied a b → (k : ℕ) (d : Issue) → a.sent_as k ≡ Some d → Cost a k d

@@ -1,4 +1,6 @@
 -- Where each command stands at each member, by the history, and what the line says of one that stands and has not run.
+use Rattle.std.proofs.lemmas.Bool.{false≢true}
+use Rattle.std.proofs.lemmas.Option.{none-some}
 use Rattle.std.proofs.Common.{◌≡◌, ℕ, Bool, true, false, cond, List, Some, None, Option, sym, refl, ap, ◌∙◌, subst}
 use Rattle.machine.specs.declared.command.Command.{Command}
 use Rattle.machine.specs.Kinds.{Kind}
@@ -10,7 +12,7 @@ use Rattle.ordering.specs.Lines.{OpenCommand, Book, stands_by}
 use Rattle.ordering.specs.Ordering.{has, greatest_answer, To}
 use Rattle.ordering.specs.Searches.{names, present}
 use Rattle.ordering.proofs.AtMember.{AtMember}
-use Rattle.ordering.proofs.Basics.{some_inj, none_some, false_true}
+use Rattle.ordering.proofs.Basics.{some_inj}
 use Rattle.ordering.proofs.Tied.{Tied, Agree, Stage, stage_of, phase_of, phase_by, phase_at, issue_of}
 
 abbrev pub command_by : Option Issue → Option Command
@@ -40,7 +42,7 @@ agree_here a b k m o p h there to was =
     subst (λ x. Agree x (stage_of a k m)) (phase_here a b k m o h there to ∙ was) (h.agree k m)
 
 some_present : {A : Type 0} (x : Option A) → present x ≡ true → (y : A) × (x ≡ Some y)
-some_present None h = absurd (false_true h)
+some_present None h = absurd (false≢true h)
 some_present (Some y) h = (y, refl)
 
 -- A final timestamp that has reached a destination is fixed.
@@ -49,27 +51,27 @@ fixed_by_settled b k q o s there to done = some_present o.fixed ((s.command k o 
 
 -- Whoever the history calls settled is settled or run on the line.
 agree_settled : (p : Phase) (s : Stage) → Agree p s → s.settled ≡ true → is_settled p ≡ true
-agree_settled Sent s h e = absurd (false_true (sym h.2 ∙ e))
-agree_settled (Heard t) s h e = absurd (false_true (sym h.2 ∙ e))
-agree_settled (Gathered t) s h e = absurd (false_true (sym h.2 ∙ e))
+agree_settled Sent s h e = absurd (false≢true (sym h.2 ∙ e))
+agree_settled (Heard t) s h e = absurd (false≢true (sym h.2 ∙ e))
+agree_settled (Gathered t) s h e = absurd (false≢true (sym h.2 ∙ e))
 agree_settled Settled s h e = refl
 agree_settled Run s h e = refl
 
 agree_past : (p : Phase) (s : Stage) → Agree p s → is_past p ≡ true → s.gathered ≡ true
-agree_past Sent s h e = absurd (false_true e)
-agree_past (Heard t) s h e = absurd (false_true e)
+agree_past Sent s h e = absurd (false≢true e)
+agree_past (Heard t) s h e = absurd (false≢true e)
 agree_past (Gathered t) s h e = h.1
 agree_past Settled s h e = h.1
 agree_past Run s h e = h.1
 
 -- What the history tells of a phase that is not sent: it was sent there.
 pub destination : (x : Option Issue) (e : Option OpenCommand) (m : ℕ) → is_settled (phase_by x e m) ≡ true → (d : Issue) × (x ≡ Some d) × (names d.set m ≡ true)
-destination None e m h = absurd (false_true h)
+destination None e m h = absurd (false≢true h)
 destination (Some d) e m h = go (names d.set m) refl h
   where
     go : (t : Bool) → names d.set m ≡ t → is_settled (cond t (phase_at e m) Sent) ≡ true → (c : Issue) × (Some d ≡ Some c) × (names c.set m ≡ true)
     go true q h = (d, refl, q)
-    go false q h = absurd (false_true h)
+    go false q h = absurd (false≢true h)
 
 -- Once settled anywhere, a command is gathered everywhere.
 pub settled_all : (a : Account) (b : Book) (k m : ℕ) (d : Issue) → Sound b → Tied a b → a.sent_as k ≡ Some d → a.settled_at k m ≡ true → (q : ℕ) → To d q → a.gathered_at k q ≡ true
@@ -98,7 +100,7 @@ never_settled a b k m q o s h there to early = go (a.settled_at k q) refl
   where
     go : (t : Bool) → a.settled_at k q ≡ t → t ≡ false
     go false e = refl
-    go true e = absurd (false_true (sym early ∙ settled_all a b k q (issue_of o) s h (h.sent k o there) e m to))
+    go true e = absurd (false≢true (sym early ∙ settled_all a b k q (issue_of o) s h (h.sent k o there) e m to))
 
 -- A command that stands at a member and has not run there is open, and stands there on the line.
 pub record OpenThere (b : Book) (m j t : ℕ) : Type 0 where
@@ -114,7 +116,7 @@ pub stands_open : (a : Account) (b : Book) (m j t : ℕ) → Sound b → Tied a 
 stands_open a b m j t s h at out = by_sent (a.sent_as j) refl (h.agree j m)
   where
     silent : Agree Sent (stage_of a j m) → ⊥
-    silent g = none_some (sym g.0 ∙ stand_by (stage_of a j m) (greatest_answer a j) t g.2 at)
+    silent g = none-some _ (sym g.0 ∙ stand_by (stage_of a j m) (greatest_answer a j) t g.2 at)
 
     found : (o : OpenCommand) → b.table j ≡ Some o → names o.set m ≡ true → (p : Phase) → o.phase m ≡ p → Agree p (stage_of a j m) → OpenThere b m j t
     found o there to Sent e g = absurd (silent g)
@@ -127,10 +129,10 @@ stands_open a b m j t s h at out = by_sent (a.sent_as j) refl (h.agree j m)
         let v : f.0 ≡ greatest_answer a j = h.final j f.0 o there f.1 in
         let w : greatest_answer a j ≡ t = some_inj (subst (λ x. cond x (Some (greatest_answer a j)) (a.heard_at j m) ≡ Some t) g.2 at) in
         record { o = o; there = there; to = to; stands = ap (stands_by o.fixed) e ∙ (f.1 ∙ ap Some (v ∙ w)) }
-    found o there to Run e g = absurd (false_true (sym out ∙ g.3))
+    found o there to Run e g = absurd (false≢true (sym out ∙ g.3))
 
     by_table : (d : Issue) → a.sent_as j ≡ Some d → names d.set m ≡ true → (e : Option OpenCommand) → b.table j ≡ e → Agree (phase_at e m) (stage_of a j m) → OpenThere b m j t
-    by_table d is to None there g = absurd (false_true (sym out ∙ g.3))
+    by_table d is to None there g = absurd (false≢true (sym out ∙ g.3))
     by_table d is to (Some o) there g =
         let own : d ≡ issue_of o = some_inj (sym is ∙ h.sent j o there) in
         found o there (subst (λ x. names x.set m ≡ true) own to) (o.phase m) refl g

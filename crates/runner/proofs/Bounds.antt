@@ -1,10 +1,11 @@
 -- What bounds the numbers of a trace: every issue number is at most 2^48, and a line has at most 16 members.
+use Rattle.std.proofs.lemmas.Option.{none-some}
 use Rattle.std.proofs.Common.{◌≡◌, ℕ, suc, ◌^◌, ◌<◌, ◌≤◌, Bool, true, false, cond, ◌&&◌, eqb, leb, List, [], ◌∷◌, length, Some, None, Ok, Err, Option, sym, refl, ap, ◌∙◌, subst, arith}
 use Rattle.std.proofs.lemmas.Bool.{and_parts, leb-true}
 use Rattle.line.specs.Counts.{member_count}
 use Rattle.machine.specs.Kinds.{Kind, Laws}
 use Rattle.ordering.proofs.Accepted.{open_ok, send_ok, hear_ok, gather_ok, settle_ok, run_ok}
-use Rattle.ordering.proofs.Basics.{some_inj, none_some, err_ok}
+use Rattle.ordering.proofs.Basics.{some_inj, err_ok}
 use Rattle.ordering.proofs.SoundSteps.{sound_after}
 use Rattle.ordering.specs.Answering.{answer_of}
 use Rattle.ordering.specs.declared.calls.Call.{Call}
@@ -76,7 +77,7 @@ numbered K (c ∷ cs) = go (after K cs).line (numbered K cs)
 -- The issue number that the record of a call shows.
 module _ (K : Kind) (b : Book) (n : Numbered (opened b)) (s : Sound b) where
   shown_open : (c : Call) → ((k : ℕ) → named c ≡ Some k → k < 10 ^ 16) → (k : ℕ) → shown_number c (answer_of (step K (opened b) c).event) ≡ Some k → k < 10 ^ 16
-  shown_open (Open n last) small k h = absurd (none_some h)
+  shown_open (Open n last) small k h = absurd (none-some _ h)
   shown_open (Send sender set c) small k h = go (send b sender set c) refl h
     where
       go : (x : Outcome (ℕ × Book)) → send b sender set c ≡ x → shown_number (Send sender set c) (answer_of (book_turn (sending sender set c) b x).event) ≡ Some k → k < 10 ^ 16
@@ -86,22 +87,22 @@ module _ (K : Kind) (b : Book) (n : Numbered (opened b)) (s : Sound b) where
           let l = o.numbers in
           let m = n.1 in
           omega arith
-      go (Err e) q h = absurd (none_some h)
+      go (Err e) q h = absurd (none-some _ h)
   shown_open (Hear m j) small k h = go (hear K b m j) h
     where
       go : (x : Outcome (ℕ × Book)) → shown_number (Hear m j) (answer_of (book_turn (hearing m j) b x).event) ≡ Some k → k < 10 ^ 16
       go (Ok r) h = small k h
-      go (Err e) h = absurd (none_some h)
+      go (Err e) h = absurd (none-some _ h)
   shown_open (Gather m j) small k h = go (gather b m j) h
     where
       go : (x : Outcome (Option ℕ × Book)) → shown_number (Gather m j) (answer_of (book_turn (gathering m j) b x).event) ≡ Some k → k < 10 ^ 16
       go (Ok r) h = small k h
-      go (Err e) h = absurd (none_some h)
+      go (Err e) h = absurd (none-some _ h)
   shown_open (Settle m j) small k h = go (settle b m j) h
     where
       go : (x : Outcome (ℕ × Book)) → shown_number (Settle m j) (answer_of (book_turn (settling m j) b x).event) ≡ Some k → k < 10 ^ 16
       go (Ok r) h = small k h
-      go (Err e) h = absurd (none_some h)
+      go (Err e) h = absurd (none-some _ h)
   shown_open (Run m) small k h = go (run K b m) refl h
     where
       go : (x : Outcome Ran) → run K b m ≡ x → shown_number (Run m) (answer_of (run_turn m b x).event) ≡ Some k → k < 10 ^ 16
@@ -112,19 +113,19 @@ module _ (K : Kind) (b : Book) (n : Numbered (opened b)) (s : Sound b) where
           let p = n.0 in
           let q = n.1 in
           omega arith
-      go (Err e) q h = absurd (none_some h)
+      go (Err e) q h = absurd (none-some _ h)
 
 shown_closed : (K : Kind) (c : Call) (k : ℕ) → shown_number c (answer_of (step K closed c).event) ≡ Some k → k < 10 ^ 16
 shown_closed K (Open n last) k h = go (open_closed n last) h
   where
     go : (x : Outcome Book) → shown_number (Open n last) (answer_of (open_turn n last x).event) ≡ Some k → k < 10 ^ 16
-    go (Ok b) h = absurd (none_some h)
-    go (Err e) h = absurd (none_some h)
-shown_closed K (Send sender set c) k h = absurd (none_some h)
-shown_closed K (Hear m j) k h = absurd (none_some h)
-shown_closed K (Gather m j) k h = absurd (none_some h)
-shown_closed K (Settle m j) k h = absurd (none_some h)
-shown_closed K (Run m) k h = absurd (none_some h)
+    go (Ok b) h = absurd (none-some _ h)
+    go (Err e) h = absurd (none-some _ h)
+shown_closed K (Send sender set c) k h = absurd (none-some _ h)
+shown_closed K (Hear m j) k h = absurd (none-some _ h)
+shown_closed K (Gather m j) k h = absurd (none-some _ h)
+shown_closed K (Settle m j) k h = absurd (none-some _ h)
+shown_closed K (Run m) k h = absurd (none-some _ h)
 
 pub shown_small : (K : Kind) (cs : List Call) (c : Call) → ((k : ℕ) → named c ≡ Some k → k < 10 ^ 16) → (k : ℕ) → shown_number c (answer_to K cs c) ≡ Some k → k < 10 ^ 16
 shown_small K cs c small = go (after K cs).line (numbered K cs) (sound_after K cs)

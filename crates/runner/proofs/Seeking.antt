@@ -1,4 +1,5 @@
 -- The first kind that a step fixes, looked for record by record.
+use Rattle.std.proofs.lemmas.Option.{none-some}
 use Rattle.std.proofs.Common.{◌≡◌, ℕ, zero, suc, ◌+◌, ◌<◌, ◌≤◌, cond, List, length, drop, Some, None, Ok, Err, sym, refl, ap, ◌∙◌, subst, arith}
 use Rattle.std.proofs.lemmas.Bool.{le-leb, lt-leb}
 use Rattle.script.specs.declared.steps.MachineKind.{MachineKind}
@@ -7,7 +8,6 @@ use Rattle.script.specs.declared.steps.StepRead.{StepRead}
 use Rattle.script.specs.Fields.{Read}
 use Rattle.script.specs.Steps.{step_at}
 use Rattle.runner.specs.Scripts.{fixed_by, kind_from, kind_in, kind_of_script, or_else}
-use Rattle.ordering.proofs.Basics.{none_some}
 use Rattle.runner.specs.declared.records.Record.{Record}
 use Rattle.runner.specs.declared.records.Records.{Records}
 use Rattle.runner.specs.Following.{Follows, end_of}
@@ -43,7 +43,7 @@ module _ (script : List ℕ) (at : ℕ) (w : Seeking script at) where
 
     pub seeking_found : (r : Read StepRead) → r ≡ step_at (drop at script) at → (k : MachineKind) → Some k ≡ fixed_by r → k ≡ kind_of_script script
     seeking_found (Ok s) is k e = sym (read (Ok s) is ∙ ap (λ o. or_else o (kind_from script (next lt).fuel s.next)) (sym e))
-    seeking_found (Err f) is k e = absurd (none_some (sym e))
+    seeking_found (Err f) is k e = absurd (none-some _ (sym e))
 
     -- Behind a record that cannot be read nothing is looked for.
     pub seeking_more : (r : Read StepRead) → r ≡ step_at (drop at script) at → None ≡ fixed_by r → at < end_of (length script) r → Seeking script (end_of (length script) r)

@@ -1,7 +1,8 @@
 -- A step that was read: its number has at most fifteen digits.
+use Rattle.std.proofs.lemmas.Option.{none-some}
 use Rattle.std.proofs.Common.{◌≡◌, ℕ, ◌^◌, ◌<◌, ◌≤◌, Bool, true, false, cond, ltb, List, drop, Some, Ok, Err, sym, refl, ap, ◌∙◌, subst}
 use Rattle.std.proofs.lemmas.Bool.{ltb-false}
-use Rattle.ordering.proofs.Basics.{some_inj, none_some, ok_inj, err_ok}
+use Rattle.ordering.proofs.Basics.{some_inj, ok_inj, err_ok}
 use Rattle.record.specs.Cut.{cut_record}
 use Rattle.script.proofs.Means.{means}
 use Rattle.script.specs.declared.faults.Cause.TheVariants.{TraceFull}
@@ -18,12 +19,12 @@ abbrev Small : Step → Type 0
 Small s = (k : ℕ) → named s.call ≡ Some k → k < 10 ^ 15
 
 text_small : {s : Step} {ts : List (List ℕ)} → StepText s ts → Small s
-text_small (opens a b) k e = absurd (none_some e)
-text_small (sends a b w) k e = absurd (none_some e)
+text_small (opens a b) k e = absurd (none-some _ e)
+text_small (sends a b w) k e = absurd (none-some _ e)
 text_small (hears a b) k e = subst (λ j. j < 10 ^ 15) (some_inj e) b
 text_small (gathers a b) k e = subst (λ j. j < 10 ^ 15) (some_inj e) b
 text_small (settles a b) k e = subst (λ j. j < 10 ^ 15) (some_inj e) b
-text_small (runs a) k e = absurd (none_some e)
+text_small (runs a) k e = absurd (none-some _ e)
 
 -- What it says of a step that there was room for it, and it was read.
 pub record Taken (room : ℕ) (read : Read StepRead) (s : StepRead) : Type 0 where

@@ -1,9 +1,10 @@
 -- The trace of a run tells its calls with their answers, and then cells.
+use Rattle.std.proofs.lemmas.Option.{none-some}
 use Rattle.std.proofs.Common.{◌≡◌, ℕ, zero, suc, ◌-◌, Bool, true, false, cond, ltb, leb, List, [], ◌∷◌, ◌++◌, map, reverse, length, Some, None, Ok, Err, Result, sym, refl, ap, ◌∙◌, append_assoc, append-nil, arith}
 use Rattle.std.proofs.lemmas.List.{map-append, reverse-append}
 use Rattle.line.specs.Counts.{member_count}
 use Rattle.machine.specs.Kinds.{Kind}
-use Rattle.ordering.proofs.Basics.{some_inj, none_some}
+use Rattle.ordering.proofs.Basics.{some_inj}
 use Rattle.ordering.specs.Answering.{answer_of}
 use Rattle.ordering.specs.declared.calls.Answer.{Answer}
 use Rattle.ordering.specs.declared.calls.Call.{Call}
@@ -51,7 +52,7 @@ record Tells (K : Kind) (cs : List Call) (n : ℕ) (o : Outcome) : Type 0 where
 stops : (K : Kind) (cs : List Call) (n : ℕ) (f : Fault) → Tells K cs n (ended cs (Some f))
 unfolding answers_from
 stops K cs n f =
-    record { more = []; calls = refl; shown = []; unshown = cell_records (after K cs).cells 0 (member_count (after K cs).line); cells = refl; trace = refl; all = λ e. absurd (none_some (sym e)); none = λ g k e r. refl }
+    record { more = []; calls = refl; shown = []; unshown = cell_records (after K cs).cells 0 (member_count (after K cs).line); cells = refl; trace = refl; all = λ e. absurd (none-some _ (sym e)); none = λ g k e r. refl }
 
 -- The cells, while there is room.
 record Shows (cs : List Call) (full : Fault) (rs : List (List ℕ)) (o : Outcome) : Type 0 where
@@ -64,11 +65,11 @@ record Shows (cs : List Call) (full : Fault) (rs : List (List ℕ)) (o : Outcome
   fault : (f : Fault) → o.fault ≡ Some f → full ≡ f
 
 shows : (cs : List Call) (full : Fault) (room : ℕ) (rs : List (List ℕ)) → Shows cs full rs (writes_all cs full room rs)
-shows cs full room [] = record { calls = refl; shown = []; unshown = []; cells = refl; trace = refl; all = λ e. refl; fault = λ f e. absurd (none_some e) }
+shows cs full room [] = record { calls = refl; shown = []; unshown = []; cells = refl; trace = refl; all = λ e. refl; fault = λ f e. absurd (none-some _ e) }
 shows cs full room (r ∷ rs) = go (ltb room 48) (shows cs full (room - length r) rs)
   where
     go : (t : Bool) → Shows cs full rs (writes_all cs full (room - length r) rs) → Shows cs full (r ∷ rs) (cond t (ended cs (Some full)) (writes r (writes_all cs full (room - length r) rs)))
-    go true s = record { calls = refl; shown = []; unshown = r ∷ rs; cells = refl; trace = refl; all = λ e. absurd (none_some (sym e)); fault = λ f e. some_inj e }
+    go true s = record { calls = refl; shown = []; unshown = r ∷ rs; cells = refl; trace = refl; all = λ e. absurd (none-some _ (sym e)); fault = λ f e. some_inj e }
     go false s =
         record { calls = s.calls; shown = r ∷ s.shown; unshown = s.unshown; cells = ap (λ xs. r ∷ xs) s.cells; trace = ap (λ xs. r ++ xs) s.trace; all = s.all; fault = s.fault }
 

@@ -1,11 +1,12 @@
 -- A numeral is what `decimal` writes.
+use Rattle.std.proofs.lemmas.Option.{none-some}
 use Rattle.std.proofs.Common.{◌≡◌, ℕ, ◌^◌, ◌<◌, ◌≤◌, Bool, true, false, cond, ◌&&◌, List, length, get_or, Some, None, decimal, sym, refl, ap, ◌∙◌, subst, ⊎_elim, arith, rules}
 use Rattle.std.specs.Str.{all_ascii_digits}
 use Rattle.std.proofs.lemmas.Fmt.{digits_decimal, digits_value-decimal, length-decimal-le, decimal_nonempty, first_decimal, decimal_digit, decimal-digits_value}
 use Rattle.std.proofs.lemmas.Str.Parse.{IsNumeralModel, numerals_by_fold, tells_all_ascii_digits, digits_value_short}
 use Rattle.std.proofs.lemmas.Bool.Decides.{nat_tests}
 use Rattle.std.proofs.lemmas.Bool.{cases_lt}
-use Rattle.ordering.proofs.Basics.{some_inj, none_some}
+use Rattle.ordering.proofs.Basics.{some_inj}
 use Rattle.script.specs.Numbers.{read_digits, shaped, numeral, Reads}
 
 own : IsNumeralModel (λ ds. all_ascii_digits ds ≡ true) (read_digits 0)
@@ -54,8 +55,8 @@ only bs n e = go (shaped bs) (all_ascii_digits bs) refl refl e
         let v : read_digits 0 bs ≡ n = some_inj h in
         let small : read_digits 0 bs < 10 ^ 15 = digits_value_short own bs 15 p k.few in
         (sym (decimal-digits_value own bs p k.some k.leads (omega arith)) ∙ ap decimal v, subst (λ m. m < 10 ^ 15) v small)
-    go true false q p h = absurd (none_some h)
-    go false d q p h = absurd (none_some h)
+    go true false q p h = absurd (none-some _ h)
+    go false d q p h = absurd (none-some _ h)
 
 pub reads_numeral : (bs : List ℕ) → Reads bs (numeral bs)
 reads_numeral bs = record { found = λ n small e. ap numeral e ∙ found n small; only = only bs }

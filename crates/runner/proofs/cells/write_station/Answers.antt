@@ -1,6 +1,6 @@
+use Rattle.std.proofs.lemmas.Option.{none-some}
 use Rattle.std.proofs.Common.{◌+◌, ◌<◌, ◌≤◌, length, sym, ◌∙◌, subst, arith, rules}
 use Rattle.script.specs.declared.faults.Cause.TheVariants.{TraceFull}
-use Rattle.ordering.proofs.Basics.{none_some}
 use Rattle.runner.specs.Runs.{fault_as}
 use Rattle.runner.specs.Cells.{station_records}
 use Rattle.runner.specs.Writing.{WroteRecords, room_of}
@@ -25,5 +25,5 @@ loop-i-preserved g c =
       | in-Some w ↦
           subst (λ t. AtCell (fault_as TraceFull 0 c.args.end) c.args.member (g.S.Stations.held c.args.stations.now c.args.member) c.args.trace.now t (c.loop-i.i + 1)) (sym w.trace-is)
           (cell_written (fault_as TraceFull 0 c.args.end) c.args.member (g.S.Stations.held c.args.stations.now c.args.member) c.args.trace.now c.loop-i.trace c.loop-i.i c.loop-i.invariant lt w.in-Some.value w.cell.new.self room (let a = c.requires.near in omega arith) (let a = c.loop-i-test.true in let b = c.CELLS-i-end.type_inv in omega arith) (search rules) (sym w.in-Some.is ∙ there) w.cell.ensures)
-      | in_default w ↦ absurd (none_some (sym w.in_default.is ∙ there))
+      | in_default w ↦ absurd (none-some _ (sym w.in_default.is ∙ there))
     ]
