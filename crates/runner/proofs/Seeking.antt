@@ -53,13 +53,6 @@ module _ (script : List ℕ) (at : ℕ) (w : Seeking script at) where
     seeking_more (Err f) is e onward =
         record { fuel = suc zero; same = read (Err f) is ∙ ap (λ b. cond b Tally (kind_in (kind_from script zero) (step_at (drop (length script) script) (length script)))) (sym (le-leb (length script) (length script) (omega arith))); enough = omega arith }
 
-  pub seeking_done : length script ≤ at → Tally ≡ kind_of_script script
-  seeking_done le = go w.fuel w.same
-    where
-      go : (f : ℕ) → kind_of_script script ≡ kind_from script f at → Tally ≡ kind_of_script script
-      go zero s = sym s
-      go (suc f) s = sym (s ∙ ap (λ b. cond b Tally (kind_in (kind_from script f) (step_at (drop at script) at))) (le-leb (length script) at le))
-
 -- The same of a script's records: the next of them fixes a kind, or the search goes on behind it.
 module _ {script : List ℕ} {s : Records} {r : Record} {t : Records} (w : Seeking script s.at) (f : Follows script s r t) where
   pub record_found : (k : MachineKind) → Some k ≡ fixed_by r.read → k ≡ kind_of_script script
