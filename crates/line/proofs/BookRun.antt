@@ -1,5 +1,5 @@
 -- A run on the tables does what the model does: the command is marked as run, and leaves once it has run everywhere.
-use Rattle.std.proofs.lemmas.Option.{none-some, slice_get_within}
+use Rattle.std.proofs.lemmas.Option.{slice_get_within}
 use Rattle.std.proofs.Common.{◌≡◌, ℕ, zero, suc, ◌-◌, ◌<◌, ◌≤◌, Bool, true, false, cond, List, [], ◌∷◌, length, take, set, Some, None, Ok, Err, Option, Result, sym, refl, ap, ◌∙◌, subst, ⊎_elim, arith, length-set, length-take}
 use Rattle.std.proofs.lemmas.Bool.{lt-ltb}
 use Rattle.std.proofs.lemmas.List.{take_all}
@@ -15,9 +15,9 @@ use Rattle.line.specs.Calls.{Releases, released_by}
 use Rattle.open_commands.specs.Places.{BestTo, EarliestAt}
 use Rattle.line.proofs.Done.{RunDone}
 use Rattle.machine.specs.declared.command.Command.{Command}
-use Rattle.open_commands.proofs.Keyed.{lookup_own, lookup_removed, apart_removed}
+use Rattle.open_commands.proofs.Keyed.{lookup_own, lookup_removed, apart_removed, slice_get-take}
 use Rattle.line.proofs.Running.{none_ready, one_ready}
-use Rattle.line.proofs.TableViews.{book_path, view_phase, view_place, fits_place, nth-set, nth_set_same, mapped-put}
+use Rattle.line.proofs.TableViews.{book_path, view_phase, view_place, fits_place, slice_get-set, slice_get-set_same, mapped-put}
 use Rattle.machine.specs.Kinds.{Kind}
 use Rattle.ordering.proofs.Accepted.{run_ok}
 use Rattle.ordering.proofs.SoundSteps.{sound_run}
@@ -28,16 +28,10 @@ use Rattle.ordering.specs.Lines.{everywhere, is_run}
 use Rattle.ordering.specs.Searches.{put, earliest_below}
 use Rattle.ordering.specs.Steps.{demand, Ran, run, run_earliest, run_taken, ready_at, left, with_command, with_phase}
 
-nth_some : {X : Type 0} (xs : List X) (i : ℕ) → i < length xs → (x : X) × (slice_get xs i ≡ Some x)
-nth_some [] i l = absurd (omega arith)
-nth_some (y ∷ ys) zero l = (y, refl)
-nth_some (y ∷ ys) (suc i) l = nth_some ys i (omega arith)
-
-nth-take : {X : Type 0} (xs : List X) (n i : ℕ) (x : X) → slice_get (take n xs) i ≡ Some x → slice_get xs i ≡ Some x
-nth-take xs zero i x h = absurd (none-some _ h)
-nth-take [] (suc n) i x h = absurd (none-some _ h)
-nth-take (y ∷ ys) (suc n) zero x h = h
-nth-take (y ∷ ys) (suc n) (suc i) x h = nth-take ys n i x h
+slice_get_there : {X : Type 0} (xs : List X) (i : ℕ) → i < length xs → (x : X) × (slice_get xs i ≡ Some x)
+slice_get_there [] i l = absurd (omega arith)
+slice_get_there (y ∷ ys) zero l = (y, refl)
+slice_get_there (y ∷ ys) (suc i) l = slice_get_there ys i (omega arith)
 
 -- The command at place i leaves.
 module _ (b : Tables) (f : Fits b) (i : ℕ) (p l : Place) (used : i < (length b.commands)) (at : slice_get b.commands i ≡ Some p) (last : slice_get b.commands ((length b.commands) - 1) ≡ Some l) where
@@ -56,7 +50,7 @@ module _ (b : Tables) (f : Fits b) (i : ℕ) (p l : Place) (used : i < (length b
         numbers = f.numbers;
         lasts = f.lasts;
         distinct = apart_removed number_of b.commands ((length b.commands) - 1) i p l (subst (λ ps. apart number_of ps ≡ true) live_suc f.distinct) (subst (λ ps. slice_get ps i ≡ Some p) live_suc at) last (omega arith);
-        wide = λ j q e. ⊎_elim (λ w. subst (λ x. length x.destinations ≡ 16) w (f.wide ((length b.commands) - 1) l last)) (λ w. f.wide j q w) (nth-set b.commands i j l q (nth-take (set b.commands i l) (length b.commands - 1) j q e));
+        wide = λ j q e. ⊎_elim (λ w. subst (λ x. length x.destinations ≡ 16) w (f.wide ((length b.commands) - 1) l last)) (λ w. f.wide j q w) (slice_get-set b.commands i j l q (slice_get-take (set b.commands i l) (length b.commands - 1) j q e));
         seated = f.seated;
       }
 
@@ -103,7 +97,7 @@ module _ (K : Kind) (b : Tables) (g : Good b) (m : ℕ) (member : m < b.members)
 
     first_at : slice_get first.commands c.place ≡ Some marked
     first_at =
-        nth_set_same b.commands c.place best.0 marked best.1
+        slice_get-set_same b.commands c.place best.0 marked best.1
 
     seen : view_open marked ≡ with_phase (view_open best.0) m Run
     seen = view_phase best.0 m Run (let w = wide in let v = inside in omega arith)
@@ -115,7 +109,7 @@ module _ (K : Kind) (b : Tables) (g : Good b) (m : ℕ) (member : m < b.members)
     -- what is there afterwards, by whether the command leaves
     after_view : (t : Bool) → everywhere is_run (view_open marked) ≡ t → (b2 : Tables) → released_by t first c.place b2 → (view_tables b2 ≡ with_command (view_tables b) c.pair.1 (cond t None (Some (view_open marked)))) × Fits b2
     after_view true e b2 h =
-        let last = nth_some first.commands (length first.commands - 1) (let u = first_used in omega arith) in
+        let last = slice_get_there first.commands (length first.commands - 1) (let u = first_used in omega arith) in
         let is : b2 ≡ removed_at first c.place last.0 = h last.0 last.1 in (
           ap view_tables is ∙ book_path (view_tables (removed_at first c.place last.0)) (with_command (view_tables b) c.pair.1 None) refl refl refl (λ k. gone last.0 last.1 k) (λ q. refl),
           subst Fits (sym is) (fits_removed first first_fits c.place marked last.0 first_used first_at last.1),
@@ -141,7 +135,7 @@ module _ (K : Kind) (b : Tables) (g : Good b) (m : ℕ) (member : m < b.members)
         (same, record { fits = w.1; sound = sound_run K (view_tables b) m answer (run_ok K (view_tables b) m answer same) g.sound })
       where
         there : slice_get first.commands c.place ≡ Some marked
-        there = nth_set_same b.commands c.place best.0 marked best.1
+        there = slice_get-set_same b.commands c.place best.0 marked best.1
 
         w : (view_tables b2 ≡ with_command (view_tables b) c.pair.1 (cond (everywhere is_run (view_open marked)) None (Some (view_open marked)))) × Fits b2
         w = after_view (everywhere is_run (view_open marked)) refl b2 (released marked there)

@@ -27,11 +27,11 @@ use Rattle.ordering.specs.Searches.{put, present}
 use Rattle.ordering.specs.Steps.{Outcome, demand, lawful_set, new_command, issue, send}
 
 -- What stands in a list with an element behind it: that element, or what stood there.
-nth-push : {X : Type 0} (xs : List X) (j : ℕ) (x y : X) → slice_get (xs ++ x ∷ []) j ≡ Some y → (x ≡ y) ⊎ (slice_get xs j ≡ Some y)
-nth-push [] zero x y h = inl (some_inj h)
-nth-push [] (suc j) x y h = absurd (none-some _ h)
-nth-push (z ∷ zs) zero x y h = inr h
-nth-push (z ∷ zs) (suc j) x y h = nth-push zs j x y h
+slice_get-push : {X : Type 0} (xs : List X) (j : ℕ) (x y : X) → slice_get (xs ++ x ∷ []) j ≡ Some y → (x ≡ y) ⊎ (slice_get xs j ≡ Some y)
+slice_get-push [] zero x y h = inl (some_inj h)
+slice_get-push [] (suc j) x y h = absurd (none-some _ h)
+slice_get-push (z ∷ zs) zero x y h = inr h
+slice_get-push (z ∷ zs) (suc j) x y h = slice_get-push zs j x y h
 
 module _ (b : Tables) (g : Good b) where
   open_count_lem : open_count (view_tables b) ≡ (length b.commands)
@@ -100,7 +100,7 @@ module _ (b : Tables) (g : Good b) where
                 numbers = omega arith;
                 lasts = g.fits.lasts;
                 distinct = apart_push number_of b.commands fresh g.fits.distinct unissued;
-                wide = λ j q e. ⊎_elim (λ w. subst (λ x. length x.destinations ≡ 16) w (length-replicate 16 unsent)) (λ w. g.fits.wide j q w) (nth-push b.commands j fresh q e);
+                wide = λ j q e. ⊎_elim (λ w. subst (λ x. length x.destinations ≡ 16) w (length-replicate 16 unsent)) (λ w. g.fits.wide j q w) (slice_get-push b.commands j fresh q e);
                 seated = g.fits.seated;
               }
 

@@ -91,7 +91,7 @@ module _ (b : Tables) (g : Good b) (m k i : ℕ) (r : At b m k i) where
       go Settled w h = absurd (err_ok h)
       go Run w h = absurd (err_ok h)
 
-  -- the command is new to the member's while.remembered it is still to be heard
+  -- the command is new to the member's memory while it is still to be heard
   new_there : (x : Phase) (t : ℕ) → next_phase (phase_in r.p.destinations m) (Hear t) ≡ Ok x → (view_member (get_or b.roll m new_seat)).remembers k ≡ None
   new_there x t h =
       let w = reach_ok (view_tables b) m k (view_open r.p) r.reached in

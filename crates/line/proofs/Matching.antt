@@ -13,7 +13,7 @@ use Rattle.line.specs.Views.{new_seat, proposal_in, lift_in, hear_in, settle_in}
 use Rattle.line.proofs.BookSteps.{At, read, hear_room, hear_done, gather_done, settle_done, inside}
 use Rattle.machine.specs.declared.command.Command.{Command}
 use Rattle.machine.specs.Kinds.{Kind}
-use Rattle.line.proofs.TableViews.{any_default, nth_set_same, set_twice}
+use Rattle.line.proofs.TableViews.{any_default, slice_get-set_same, set_twice}
 use Rattle.std.specs.List.{slice_get}
 use Rattle.ordering.specs.declared.calls.Phase.{Phase}
 use Rattle.ordering.specs.Kept.{owed}
@@ -77,7 +77,7 @@ module _ (b : Tables) (g : Good b) (m k i : ℕ) (r : At b m k i) where
       first = w ∙ ap (λ z. with_place b i (with_phase_in r.p z x)) e
 
       there : slice_get b1.commands i ≡ Some q
-      there = ap (λ z. slice_get z.commands i) first ∙ nth_set_same b.commands i r.p q (r.at)
+      there = ap (λ z. slice_get z.commands i) first ∙ slice_get-set_same b.commands i r.p q (r.at)
 
       fixes : (v ≡ final_of (view_open q)) × (b2 ≡ with_place b1 i (with_fixed_in q (final_of (view_open q))))
       fixes = f q there

@@ -58,17 +58,17 @@ mapped-put f k j o g = go (eqb k j)
     go false = refl
 
 -- What stands in a list written at one place: the new element, or what stood there.
-pub nth-set : {X : Type 0} (xs : List X) (i j : ℕ) (x y : X) → slice_get (set xs i x) j ≡ Some y → (x ≡ y) ⊎ (slice_get xs j ≡ Some y)
-nth-set [] i j x y h = absurd (none-some _ h)
-nth-set (z ∷ zs) zero zero x y h = inl (some_inj h)
-nth-set (z ∷ zs) zero (suc j) x y h = inr h
-nth-set (z ∷ zs) (suc i) zero x y h = inr h
-nth-set (z ∷ zs) (suc i) (suc j) x y h = nth-set zs i j x y h
+pub slice_get-set : {X : Type 0} (xs : List X) (i j : ℕ) (x y : X) → slice_get (set xs i x) j ≡ Some y → (x ≡ y) ⊎ (slice_get xs j ≡ Some y)
+slice_get-set [] i j x y h = absurd (none-some _ h)
+slice_get-set (z ∷ zs) zero zero x y h = inl (some_inj h)
+slice_get-set (z ∷ zs) zero (suc j) x y h = inr h
+slice_get-set (z ∷ zs) (suc i) zero x y h = inr h
+slice_get-set (z ∷ zs) (suc i) (suc j) x y h = slice_get-set zs i j x y h
 
-pub nth_set_same : {X : Type 0} (xs : List X) (i : ℕ) (x y : X) → slice_get xs i ≡ Some x → slice_get (set xs i y) i ≡ Some y
-nth_set_same [] i x y h = absurd (none-some _ h)
-nth_set_same (z ∷ zs) zero x y h = refl
-nth_set_same (z ∷ zs) (suc i) x y h = nth_set_same zs i x y h
+pub slice_get-set_same : {X : Type 0} (xs : List X) (i : ℕ) (x y : X) → slice_get xs i ≡ Some x → slice_get (set xs i y) i ≡ Some y
+slice_get-set_same [] i x y h = absurd (none-some _ h)
+slice_get-set_same (z ∷ zs) zero x y h = refl
+slice_get-set_same (z ∷ zs) (suc i) x y h = slice_get-set_same zs i x y h
 
 pub set_twice : {X : Type 0} (xs : List X) (i : ℕ) (x y : X) → set (set xs i x) i y ≡ set xs i y
 set_twice [] i x y = refl
@@ -88,7 +88,7 @@ module _ (b : Tables) (f : Fits b) (i : ℕ) (p p' : Place) (l : i < (length b.c
         numbers = f.numbers;
         lasts = f.lasts;
         distinct = apart_set number_of b.commands i p p' f.distinct at same;
-        wide = λ j q e. ⊎_elim (λ w. subst (λ x. length x.destinations ≡ 16) w wide) (λ w. f.wide j q w) (nth-set b.commands i j p' q e);
+        wide = λ j q e. ⊎_elim (λ w. subst (λ x. length x.destinations ≡ 16) w wide) (λ w. f.wide j q w) (slice_get-set b.commands i j p' q e);
         seated = f.seated;
       }
 

@@ -32,30 +32,30 @@ entries_take (suc k) (o ∷ os) h =
     let e : 3 * suc k ≡ length (entry o) + 3 * k = omega (arith, three o) in
     rw e (take-append-add (entry o) (entries os) (3 * k) ∙ ap (λ zs. entry o ++ zs) (entries_take k os (omega arith)))
 
-nth_left : (xs ys : List ℕ) (i : ℕ) → i < length xs → slice_get (xs ++ ys) i ≡ slice_get xs i
-nth_left [] ys i h = absurd (omega arith)
-nth_left (x ∷ xs) ys zero h = refl
-nth_left (x ∷ xs) ys (suc i) h = nth_left xs ys i (omega arith)
+slice_get-append_left : (xs ys : List ℕ) (i : ℕ) → i < length xs → slice_get (xs ++ ys) i ≡ slice_get xs i
+slice_get-append_left [] ys i h = absurd (omega arith)
+slice_get-append_left (x ∷ xs) ys zero h = refl
+slice_get-append_left (x ∷ xs) ys (suc i) h = slice_get-append_left xs ys i (omega arith)
 
-nth_right : (xs ys : List ℕ) (i : ℕ) → slice_get (xs ++ ys) (length xs + i) ≡ slice_get ys i
-nth_right [] ys i = let e : 0 + i ≡ i = omega arith in rw e
-nth_right (x ∷ xs) ys i = let e : suc (length xs) + i ≡ suc (length xs + i) = omega arith in rw e (nth_right xs ys i)
+slice_get-append_right : (xs ys : List ℕ) (i : ℕ) → slice_get (xs ++ ys) (length xs + i) ≡ slice_get ys i
+slice_get-append_right [] ys i = let e : 0 + i ≡ i = omega arith in rw e
+slice_get-append_right (x ∷ xs) ys i = let e : suc (length xs) + i ≡ suc (length xs + i) = omega arith in rw e (slice_get-append_right xs ys i)
 
-entries_nth : (l : List (Option Command)) (q r : ℕ) → r < 3 → q < length l → slice_get (entries l) (3 * q + r) ≡ slice_get (entry (slice_index_or l q None)) r
-entries_nth [] q r h k = absurd (omega arith)
-entries_nth (o ∷ os) zero r h k =
+entries_slice_get : (l : List (Option Command)) (q r : ℕ) → r < 3 → q < length l → slice_get (entries l) (3 * q + r) ≡ slice_get (entry (slice_index_or l q None)) r
+entries_slice_get [] q r h k = absurd (omega arith)
+entries_slice_get (o ∷ os) zero r h k =
     let e : 0 + r ≡ r = omega arith in
-    rw e (nth_left (entry o) (entries os) r (omega (arith, three o)))
-entries_nth (o ∷ os) (suc q) r h k =
+    rw e (slice_get-append_left (entry o) (entries os) r (omega (arith, three o)))
+entries_slice_get (o ∷ os) (suc q) r h k =
     let e : 3 * suc q + r ≡ length (entry o) + (3 * q + r) = omega (arith, three o) in
-    rw e (nth_right (entry o) (entries os) (3 * q + r) ∙ entries_nth os q r h (omega arith))
+    rw e (slice_get-append_right (entry o) (entries os) (3 * q + r) ∙ entries_slice_get os q r h (omega arith))
 
 cell_at : (l : List (Option Command)) (i : ℕ) → i / 3 < length l → slice_get (entries l) i ≡ Some (slice_index (entry (slice_index_or l (i / 3) None)) (i % 3))
 cell_at l i q =
     let e : i ≡ 3 * (i / 3) + i % 3 = omega arith in
     let o = get_or l (i / 3) None in
     let r : i % 3 < length (entry o) = omega (arith, three o) in
-    ap (slice_get (entries l)) e ∙ entries_nth l (i / 3) (i % 3) (omega arith) q ∙ slice_get-get_or (entry o) (i % 3) 0 r
+    ap (slice_get (entries l)) e ∙ entries_slice_get l (i / 3) (i % 3) (omega arith) q ∙ slice_get-get_or (entry o) (i % 3) 0 r
 
 pub no_cell : (l : List (Option Command)) (i : ℕ) → length l ≤ i / 3 → slice_get (entries l) i ≡ None
 no_cell l i k = slice_get_past (entries l) i (omega (arith, entries_length l))

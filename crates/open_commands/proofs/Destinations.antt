@@ -1,10 +1,13 @@
 -- Loops over the destinations of an open command, turn by turn.
 use Rattle.std.proofs.lemmas.Option.{none-some}
-use Rattle.std.proofs.Common.{◌≡◌, ℕ, ◌+◌, ◌^◌, ◌<◌, ◌≤◌, Bool, true, false, cond, not, ◌||◌, Some, None, sym, refl, ap, ◌∙◌, subst, add-one, arith}
-use Rattle.std.proofs.lemmas.Bool.{and_from, false_from_ne_true}
+use Rattle.std.proofs.Common.{◌≡◌, ℕ, ◌+◌, ◌^◌, ◌<◌, ◌≤◌, Bool, true, false, cond, not, ◌||◌, Some, None, sym, refl, ap, ◌∙◌, subst, get_or, arith}
+use Rattle.std.proofs.lemmas.Bool.{false_from_ne_true}
 use Rattle.ordering.proofs.Bits.{names_below}
+use Rattle.std.proofs.lemmas.List.FromFn.{get_or-range_with_len}
+use Rattle.std.specs.Bool.{MatchBool}
+use Rattle.std.specs.List.{AllWithin, HoldsAt, range_with_len}
 use Rattle.open_commands.specs.Views.{gathered_by, gathered_at, done_at}
-use Rattle.ordering.proofs.Bounded.{all_fails}
+use Rattle.ordering.proofs.Bounded.{all_fails, all_from}
 use Rattle.ordering.specs.declared.calls.Phase.{Phase}
 use Rattle.ordering.specs.declared.calls.Phase.TheVariants.{Sent, Heard, Gathered, Settled, Run}
 use Rattle.ordering.specs.Lines.{OpenCommand, is_gathered, is_run, proposal, everywhere, greatest_proposal}
@@ -40,17 +43,14 @@ final_all o q g e s =
     let w = subst (λ n. SoFar o n g) e s in
     ap Some w.1 ∙ ap (λ t. cond t (Some (greatest_proposal o)) None) (sym w.0)
 
-abbrev pub DoneTo : OpenCommand → ℕ → Type 0
-DoneTo o q = all_below q (λ i. not (names o.set i) || is_run (o.phase i)) ≡ true
+turn : (k : ℕ) → k < 16 → get_or (range_with_len 0 16) k 0 ≡ k
+turn k l = let w : 0 + k ≡ k = omega arith in get_or-range_with_len 0 16 k 0 l ∙ w
 
-pub done_more : (o : OpenCommand) (q : ℕ) → done_at o q ≡ true → DoneTo o q → DoneTo o (q + 1)
-done_more o q h s = subst (DoneTo o) (sym (add-one q)) (and_from (done_at o q) (all_below q (done_at o)) h s)
-
-pub done_stop : (o : OpenCommand) (q : ℕ) → q < 16 → done_at o q ≡ false → false ≡ everywhere is_run o
-done_stop o q l h = sym (all_fails 16 (done_at o) q l h)
-
-pub done_all : (o : OpenCommand) (q : ℕ) → q ≡ 16 → DoneTo o q → true ≡ everywhere is_run o
-done_all o q e s = sym (subst (DoneTo o) e s)
+-- Every member in turn has run the command or is no destination, or one has not and is.
+pub all_done : (o : OpenCommand) (r : Bool) → MatchBool r (AllWithin (λ q. done_at o q ≡ true) (range_with_len 0 16) 0 16) ((k : ℕ) × (k < 16) × HoldsAt (λ q. done_at o q ≡ false) (range_with_len 0 16) k) → r ≡ everywhere is_run o
+all_done o true h =
+    sym (all_from 16 (done_at o) (λ k l. subst (λ q. done_at o q ≡ true) (turn k l) (h k 0 (omega arith) l)))
+all_done o false h = sym (all_fails 16 (done_at o) h.0 h.1 (subst (λ q. done_at o q ≡ false) (turn h.0 h.1) (h.2 0)))
 
 -- A set of sixteen members names none past them.
 pub names_none : (set q : ℕ) → set < 2 ^ 16 → 16 ≤ q → names set q ≡ false

@@ -233,17 +233,17 @@ take_last [] n x h = absurd (none-some _ h)
 take_last (y ∷ ys) zero x h = ap (λ z. z ∷ []) (some_inj h)
 take_last (y ∷ ys) (suc n) x h = ap (λ zs. y ∷ zs) (take_last ys n x h)
 
-nth_front : {X : Type 0} (xs : List X) (n i : ℕ) (x : X) → i < n → slice_get (take (suc n) xs) i ≡ Some x → slice_get (take n xs) i ≡ Some x
-nth_front xs zero i x l h = absurd (omega arith)
-nth_front [] (suc n) i x l h = absurd (none-some _ h)
-nth_front (y ∷ ys) (suc n) zero x l h = h
-nth_front (y ∷ ys) (suc n) (suc i) x l h = nth_front ys n i x (omega arith) h
+slice_get_front : {X : Type 0} (xs : List X) (n i : ℕ) (x : X) → i < n → slice_get (take (suc n) xs) i ≡ Some x → slice_get (take n xs) i ≡ Some x
+slice_get_front xs zero i x l h = absurd (omega arith)
+slice_get_front [] (suc n) i x l h = absurd (none-some _ h)
+slice_get_front (y ∷ ys) (suc n) zero x l h = h
+slice_get_front (y ∷ ys) (suc n) (suc i) x l h = slice_get_front ys n i x (omega arith) h
 
-nth_whole : {X : Type 0} (xs : List X) (n i : ℕ) (x : X) → slice_get (take n xs) i ≡ Some x → slice_get xs i ≡ Some x
-nth_whole xs zero i x h = absurd (none-some _ h)
-nth_whole [] (suc n) i x h = absurd (none-some _ h)
-nth_whole (y ∷ ys) (suc n) zero x h = h
-nth_whole (y ∷ ys) (suc n) (suc i) x h = nth_whole ys n i x h
+pub slice_get-take : {X : Type 0} (xs : List X) (n i : ℕ) (x : X) → slice_get (take n xs) i ≡ Some x → slice_get xs i ≡ Some x
+slice_get-take xs zero i x h = absurd (none-some _ h)
+slice_get-take [] (suc n) i x h = absurd (none-some _ h)
+slice_get-take (y ∷ ys) (suc n) zero x h = h
+slice_get-take (y ∷ ys) (suc n) (suc i) x h = slice_get-take ys n i x h
 
 -- An element removed: the last in use takes its place.
 module _ {X : Type 0} (key : X → ℕ) (cs : List X) (n i : ℕ) (x l : X) (h : apart key (take (suc n) cs) ≡ true) (at : slice_get (take (suc n) cs) i ≡ Some x) (last : slice_get cs n ≡ Some l) (le : i ≤ n) where
@@ -254,7 +254,7 @@ module _ {X : Type 0} (key : X → ℕ) (cs : List X) (n i : ℕ) (x l : X) (h :
   whole j = ap (λ ys. lookup_by key ys j) (take_last cs n l last) ∙ lookup_push key (take n cs) l front.1 j
 
   is_last : i ≡ n → x ≡ l
-  is_last e = some_inj (sym (nth_whole cs (suc n) i x at) ∙ (ap (slice_get cs) e ∙ last))
+  is_last e = some_inj (sym (slice_get-take cs (suc n) i x at) ∙ (ap (slice_get cs) e ∙ last))
 
   pub lookup_removed : (j : ℕ) → lookup_by key (take n (set cs i l)) j ≡ put (key x) None (lookup_by key (take (suc n) cs)) j
   lookup_removed j = ⊎_elim at_last (λ ne. inner (less ne)) (cases_eq i n)
@@ -276,10 +276,10 @@ module _ {X : Type 0} (key : X → ℕ) (cs : List X) (n i : ℕ) (x l : X) (h :
 
       inner : i < n → lookup_by key (take n (set cs i l)) j ≡ put (key x) None (lookup_by key (take (suc n) cs)) j
       inner w =
-          ap (λ ys. lookup_by key ys j) (take-set-lt n cs i l w) ∙ (lookup_replace key (take n cs) i x l front.0 (nth_front cs n i x w at) front.1 j ∙ (swap (eqb (key l) j) refl (eqb (key x) j) refl ∙ ap (λ z. cond (eqb (key x) j) None z) (sym (whole j))))
+          ap (λ ys. lookup_by key ys j) (take-set-lt n cs i l w) ∙ (lookup_replace key (take n cs) i x l front.0 (slice_get_front cs n i x w at) front.1 j ∙ (swap (eqb (key l) j) refl (eqb (key x) j) refl ∙ ap (λ z. cond (eqb (key x) j) None z) (sym (whole j))))
         where
           differ : key x ≡ key l → ⊥
-          differ = other_key key (take n cs) i x (key l) front.0 (nth_front cs n i x w at) front.1
+          differ = other_key key (take n cs) i x (key l) front.0 (slice_get_front cs n i x w at) front.1
 
           swap : (s : Bool) → eqb (key l) j ≡ s → (t : Bool) → eqb (key x) j ≡ t → cond s (Some l) (cond t None (lookup_by key (take n cs) j)) ≡ cond t None (cond s (Some l) (lookup_by key (take n cs) j))
           swap true a true b = absurd (differ (eqb-true (key x) j b ∙ sym (eqb-true (key l) j a)))
@@ -298,4 +298,4 @@ module _ {X : Type 0} (key : X → ℕ) (cs : List X) (n i : ℕ) (x l : X) (h :
 
       inner : i < n → apart key (take n (set cs i l)) ≡ true
       inner w =
-          subst (λ ys. apart key ys ≡ true) (sym (take-set-lt n cs i l w)) (apart_replace key (take n cs) i x l front.0 (nth_front cs n i x w at) front.1)
+          subst (λ ys. apart key ys ≡ true) (sym (take-set-lt n cs i l w)) (apart_replace key (take n cs) i x l front.0 (slice_get_front cs n i x w at) front.1)

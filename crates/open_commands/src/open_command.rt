@@ -101,12 +101,7 @@ impl OpenCommand {
     pub fn has_run(&self) -> bool
         ensures { result ≡ everywhere is_run (view_open self.now) }
     {
-        for q in 0..MEMBERS {
-            if !self.is_done(q) {
-                return false;
-            }
-        }
-        true
+        (0..MEMBERS).all(|member| self.is_done(member))
     }
 
     /// Where the command stands at the member, if the member has heard and not run it.
