@@ -52,11 +52,11 @@ impl Member {
             .any(|held| held.number == number)
     }
 
-    fn remember(&mut self, number: u64, command: Command)
+    fn remember(&mut self, held: Remembered)
         requires { length self.old.remembered < 16 }
-        ensures { self.new ≡ remember_in self.old number command }
+        ensures { self.new ≡ remember_in self.old held.number held.command }
     {
-        self.remembered.push(Remembered { number, command });
+        self.remembered.push(held);
     }
 
     /// The timestamp that the member proposes for the command: the clock, one on where it has to rise first.
@@ -82,28 +82,28 @@ impl Member {
     }
 
     /// Hears the command, with the timestamp that the member proposes for it.
-    pub(crate) fn hear(&mut self, number: u64, command: Command, timestamp: u64)
+    pub(crate) fn hear(&mut self, heard: Remembered, timestamp: u64)
         requires { length (lift_in self.old timestamp).remembered < 16 }
-        ensures { self.new ≡ hear_in self.old number command timestamp }
+        ensures { self.new ≡ hear_in self.old heard.number heard.command timestamp }
     {
         self.lift(timestamp);
-        self.remember(number, command);
+        self.remember(heard);
     }
 
     /// The final timestamp of the command arrives.
-    pub(crate) fn settle(&mut self, number: u64, command: Command, timestamp: u64)
+    pub(crate) fn settle(&mut self, settled: Remembered, timestamp: u64)
         requires { self.old.clock + 1 < 2 ^ 64 }
-        ensures { self.new ≡ settle_in self.old number command timestamp }
+        ensures { self.new ≡ settle_in self.old settled.number settled.command timestamp }
     {
         if self.clock < timestamp {
             self.lift(timestamp);
-            self.remember(number, command);
-        } else if timestamp == self.clock && !self.remembers(number) {
+            self.remember(settled);
+        } else if timestamp == self.clock && !self.remembers(settled.number) {
             if self.remembered.is_full() {
                 self.clock += 1;
                 self.remembered.clear();
             } else {
-                self.remember(number, command);
+                self.remember(settled);
             }
         }
     }

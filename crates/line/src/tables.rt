@@ -14,6 +14,7 @@ use open_commands::parts::{Address, OpenCommand};
 use ordering::calls::Phase;
 use std::array;
 
+// That a place is below the length is asked by each function: it binds two values, so neither type can carry it.
 impl Tables {
     pub(crate) fn empty(members: u8, last: u64) -> Tables
         ensures { EmptyTables members last result }

@@ -17,6 +17,7 @@ pub enum Command {
 
 impl Command {
     /// The command as its class, first and second number.
+    // Numbers, since the cells of a machine are numbers and a recorder shows the command in three of them.
     pub fn numbers(self) -> [u32; 3]
         ensures { result ≡ numbers self }
     {

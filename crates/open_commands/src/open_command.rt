@@ -73,6 +73,7 @@ impl OpenCommand {
     fn final_timestamp(&self) -> Option<u64>
         ensures { result ≡ final_of (view_open self.now) }
     {
+        // A loop, which ends by ? at the first destination that is not gathered.
         let mut greatest = 0;
         for q in 0..MEMBERS {
             greatest = greatest.max(self.gathered(q)?);

@@ -32,6 +32,7 @@ pub struct Report {
 fn run_as(kind: MachineKind, script: Script<'_>, trace: &mut Trace<'_>) -> Result<(), Fault>
     ensures { Wrote (runs (made kind) script.entry.bytes.now (room_of trace.old)) trace.old trace.new result }
 {
+    // A match, and no closures: each kind is another type.
     match kind {
         MachineKind::AxisBank => run_steps::<AxisStations>(script, trace),
         MachineKind::Recorder => run_steps::<RecorderStations>(script, trace),

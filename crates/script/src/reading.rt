@@ -144,6 +144,7 @@ fn run(f: Operands<'_>) -> Result<Step, StepFault>
 pub(crate) fn step(letter: Letter, f: Operands<'_>) -> Result<Step, StepFault>
     ensures { result ≡ step_by letter (pieces_of f.entry) }
 {
+    // A match, and no closures: each letter has a reading of its own.
     match letter {
         Letter::O => open(f),
         Letter::S => send(f),

@@ -10,6 +10,7 @@ use open_commands::parts::MEMBERS;
 use ordering::calls::{Answer, Call, Refusal};
 
 /// One station for each member that a line can have, in the order of the members.
+// A type for this kind, and no generic one: a plain array for each made kind is a wanted form (docs/DECISIONS.md).
 #[derive(Drop)]
 pub struct AxisStations {
     at: [Station<AxisBank>; MEMBERS],

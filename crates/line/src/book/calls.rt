@@ -6,7 +6,7 @@ ghost use Rattle.line.specs.Places.{Reaches};
 ghost use Rattle.ordering.specs.Steps.{send, hear, gather, settle, run};
 
 use super::Book;
-use crate::parts::{LAST_NUMBER, Tables};
+use crate::parts::{LAST_NUMBER, Remembered, Tables};
 use machine::command::Command;
 use machine::kind::Machine;
 use open_commands::parts::{Address, MEMBERS, OpenCommand};
@@ -38,6 +38,7 @@ impl Book {
     }
 
     /// The place of the command with the number, of which the member is a destination.
+    // Member and number are a call's own operands, in its words, so no struct binds them.
     fn reach(&self, member: u8, number: u64) -> Result<usize, Refusal>
         ensures { Reaches self.now.tables member number result }
     {
@@ -83,7 +84,7 @@ impl Book {
         let phase = next_phase(phase, Step::Hear(proposal))?;
         let tables = &mut self.tables;
         tables.put_phase(place, member, phase);
-        tables.roll[member].hear(number, command, proposal);
+        tables.roll[member].hear(Remembered { number, command }, proposal);
         Ok(proposal)
     }
 
@@ -111,7 +112,7 @@ impl Book {
         let timestamp = fixed.unwrap();
         let tables = &mut self.tables;
         tables.put_phase(place, member, phase);
-        tables.roll[member].settle(number, command, timestamp);
+        tables.roll[member].settle(Remembered { number, command }, timestamp);
         Ok(tables.roll[member].clock)
     }
 

@@ -17,6 +17,7 @@ impl<M: Machine> Line<M> {
         ensures kept { KeptIf result self.old self.new }
         ensures idle { KeptIf result station.old station.new }
     {
+        // A match, and no closures: each call answers another type.
         match call {
             Call::Open { members, last } => self.open(members, last).map(|()| Answer::Opened),
             Call::Send {
