@@ -3,6 +3,7 @@ use Rattle.std.specs.Prelude.{◌≡◌, ℕ, zero, suc, ◌+◌, ◌*◌, ◌/�
 use Rattle.std.proofs.Common.{sym, ap, ◌∙◌, arith, drop-cons}
 use lib.Seq.{take-append-add}
 use Rattle.std.specs.List.{slice_get}
+use Rattle.std.specs.Option.{MatchOption}
 use Rattle.std.proofs.lemmas.List.{length-append}
 use Rattle.std.proofs.lemmas.Option.{slice_get-get_or, slice_get_past}
 use Rattle.machine.specs.declared.command.Command.{Command}
@@ -60,20 +61,16 @@ cell_at l i q =
 pub no_cell : (l : List (Option Command)) (i : ℕ) → length l ≤ i / 3 → slice_get (entries l) i ≡ None
 no_cell l i k = slice_get_past (entries l) i (omega (arith, entries_length l))
 
--- A cell of a place that holds a command, and of one that holds none.
-pub some_cell :
-    (l : List (Option Command)) (i : ℕ) (c : Command) (ns : List ℕ) → i / 3 < length l → slice_index_or l (i / 3) None ≡ Some c → ns ≡ numbers c →
-    Some (slice_index ns (i % 3)) ≡ slice_get (entries l) i
-some_cell l i c ns k e f = sym (cell_at l i k ∙ rw (e, f))
-
 blank : (r : ℕ) → slice_index (entry None) r ≡ 0
 blank zero = refl
 blank (suc zero) = refl
 blank (suc (suc zero)) = refl
 blank (suc (suc (suc r))) = refl
 
-pub none_cell : (l : List (Option Command)) (i : ℕ) → i / 3 < length l → slice_index_or l (i / 3) None ≡ None → Some 0 ≡ slice_get (entries l) i
-none_cell l i k e = sym (cell_at l i k ∙ rw e (ap (λ x. Some x) (blank (i % 3))))
+-- A cell of a place: a number of the command that it holds, and 0 where it holds none.
+pub place_cell : (l : List (Option Command)) (i : ℕ) (p : Option Command) (r : ℕ) → i / 3 < length l → slice_index_or l (i / 3) None ≡ p → MatchOption p (r ≡ 0) (λ c. r ≡ slice_index (numbers c) (i % 3)) → Some r ≡ slice_get (entries l) i
+place_cell l i None r k e h = sym (cell_at l i k ∙ rw (e, h) (ap (λ x. Some x) (blank (i % 3))))
+place_cell l i (Some c) r k e h = sym (cell_at l i k ∙ rw (e, h) refl)
 
 -- The first places, one by one.
 places_are : (l : List (Option Command)) (i k : ℕ) → i + k ≤ length l → places_from l i k ≡ take k (drop i l)

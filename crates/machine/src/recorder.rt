@@ -36,11 +36,8 @@ fn fits_words(command: Command)
 fn place_cell(places: &[Option<Command>], i: usize) -> Option<u32>
     ensures { result ≡ slice_get (entries places.now) i }
 {
-    match places.get(i / 3) {
-        Some(Some(command)) => Some(command.numbers()[i % 3]),
-        Some(None) => Some(0),
-        None => None,
-    }
+    let place = places.get(i / 3)?;
+    Some(place.map_or(0, |command| command.numbers()[i % 3]))
 }
 
 impl Machine for Recorder {
