@@ -88,6 +88,7 @@ fn axis_and_word(f: Operands<'_>) -> Result<(u8, u32), StepFault>
 fn command(f: Operands<'_>) -> Result<Command, StepFault>
     ensures { result ≡ command_of (pieces_of f.entry) }
 {
+    // A match, and no closures: each kind of command has operands of its own.
     match number_as(f.class)? {
         CommandKind::Set => axis_and_word(f).map(|(axis, value)| Command::Set { axis, value }),
         CommandKind::Shift => axis_and_word(f).map(|(axis, amount)| Command::Shift {
