@@ -1,5 +1,5 @@
 -- A send on the tables does what the model does: the new command lies behind the others.
-use Rattle.std.proofs.lemmas.Option.{none-some}
+use Rattle.std.proofs.lemmas.Option.{none-some, same_Some}
 use Rattle.std.proofs.Common.{◌≡◌, ◌⊎◌, inl, inr, List, ℕ, zero, suc, ◌+◌, ◌<◌, ◌≤◌, ltb, [], ◌∷◌, ◌++◌, length, replicate, Some, None, Ok, Err, Option, sym, refl, ap, ◌∙◌, subst, ⊎_elim, add-one, arith}
 use Rattle.std.proofs.lemmas.List.{length-append, get_or-replicate, length-replicate, get_or_past}
 use Rattle.std.proofs.lemmas.Bool.{lt-ltb, le-ltb, cases_lt}
@@ -16,7 +16,6 @@ use Rattle.open_commands.proofs.Keyed.{lookup_place, lookup_push, apart_push, co
 use Rattle.line.proofs.Running.{numbered}
 use Rattle.line.proofs.SeatViews.{count_same, mapped-present}
 use Rattle.line.proofs.TableViews.{open_path, book_path, mapped-put}
-use Rattle.ordering.proofs.Basics.{some_inj}
 use Rattle.machine.specs.AxisBanks.{axis_bank}
 use Rattle.machine.specs.declared.command.Command.{Command}
 use Rattle.ordering.proofs.Accepted.{send_ok}
@@ -28,7 +27,7 @@ use Rattle.ordering.specs.Steps.{Outcome, demand, lawful_set, new_command, issue
 
 -- What stands in a list with an element behind it: that element, or what stood there.
 slice_get-push : {X : Type 0} (xs : List X) (j : ℕ) (x y : X) → slice_get (xs ++ x ∷ []) j ≡ Some y → (x ≡ y) ⊎ (slice_get xs j ≡ Some y)
-slice_get-push [] zero x y h = inl (some_inj h)
+slice_get-push [] zero x y h = inl (same_Some _ _ h)
 slice_get-push [] (suc j) x y h = absurd (none-some _ h)
 slice_get-push (z ∷ zs) zero x y h = inr h
 slice_get-push (z ∷ zs) (suc j) x y h = slice_get-push zs j x y h

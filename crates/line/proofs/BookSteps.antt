@@ -1,4 +1,5 @@
 -- A hear, a gather and a settle on the tables do what the model does.
+use Rattle.std.proofs.lemmas.Option.{same_Some}
 use Rattle.std.proofs.Common.{◌≡◌, ℕ, ◌<◌, ◌≤◌, length, get_or, Some, None, Ok, Option, sym, refl, ap, ◌∙◌, subst, arith, length-set}
 use Rattle.std.specs.List.{slice_get}
 use Rattle.line.specs.declared.parts.Tables.{Tables}
@@ -16,7 +17,7 @@ use Rattle.line.proofs.SeatViews.{Known}
 use Rattle.line.proofs.TableViews.{book_path, view_phase, view_place, fits_place, view_seat, fits_seat}
 use Rattle.machine.specs.Kinds.{Kind}
 use Rattle.ordering.proofs.Accepted.{reach_ok, hear_ok, gather_ok, settle_ok}
-use Rattle.ordering.proofs.Basics.{ok_inj, err_ok, absent_none, some_inj}
+use Rattle.ordering.proofs.Basics.{ok_inj, err_ok, absent_none}
 use Rattle.ordering.proofs.SoundSteps.{sound_hear, sound_gather, sound_settle}
 use Rattle.ordering.specs.declared.calls.Phase.{Phase}
 use Rattle.ordering.specs.declared.calls.Phase.TheVariants.{Sent, Heard, Gathered, Settled, Run}
@@ -40,7 +41,7 @@ at_of b m k i r =
 module _ (b : Tables) (g : Good b) (m k i : ℕ) (r : At b m k i) where
   -- What was read at the place.
   pub read : (x : Place) → slice_get b.commands i ≡ Some x → x ≡ r.p
-  read x e = some_inj (sym e ∙ r.at)
+  read x e = same_Some _ _ (sym e ∙ r.at)
 
   pub inside : m < 16
   inside = let w : b.members ≤ 16 = g.sound.few in let v : m < b.members = r.member in omega arith

@@ -1,5 +1,5 @@
 -- One place or one seat of the tables changed: what the model sees, and that the tables still fit.
-use Rattle.std.proofs.lemmas.Option.{none-some}
+use Rattle.std.proofs.lemmas.Option.{none-some, same_Some}
 use Rattle.std.proofs.Common.{◌≡◌, ℕ, zero, suc, ◌<◌, ◌≤◌, Bool, true, false, cond, eqb, ◌≢◌, ◌⊎◌, List, [], ◌∷◌, length, get_or, set, Some, Option, sym, refl, ap, ◌∙◌, subst, inl, inr, ⊎_elim, arith, length-set, get_or-set_other, get_or-set_same}
 use Rattle.std.specs.List.{slice_get}
 use Rattle.line.specs.declared.parts.Tables.{Tables}
@@ -10,7 +10,7 @@ use Rattle.open_commands.specs.Views.{number_of, phase_in, unsent, view_open, wi
 use Rattle.line.specs.Tables.{view_table, view_member, with_place, with_seat, Fits, SeatFits}
 use Rattle.line.specs.Views.{new_seat}
 use Rattle.open_commands.proofs.Keyed.{lookup_set, apart_set}
-use Rattle.ordering.proofs.Basics.{some_inj, put_cases}
+use Rattle.ordering.proofs.Basics.{put_cases}
 use Rattle.ordering.specs.declared.calls.Phase.{Phase}
 use Rattle.ordering.specs.Lines.{OpenCommand, Member, Book}
 use Rattle.ordering.specs.Searches.{put}
@@ -60,7 +60,7 @@ mapped-put f k j o g = go (eqb k j)
 -- What stands in a list written at one place: the new element, or what stood there.
 pub slice_get-set : {X : Type 0} (xs : List X) (i j : ℕ) (x y : X) → slice_get (set xs i x) j ≡ Some y → (x ≡ y) ⊎ (slice_get xs j ≡ Some y)
 slice_get-set [] i j x y h = absurd (none-some _ h)
-slice_get-set (z ∷ zs) zero zero x y h = inl (some_inj h)
+slice_get-set (z ∷ zs) zero zero x y h = inl (same_Some _ _ h)
 slice_get-set (z ∷ zs) zero (suc j) x y h = inr h
 slice_get-set (z ∷ zs) (suc i) zero x y h = inr h
 slice_get-set (z ∷ zs) (suc i) (suc j) x y h = slice_get-set zs i j x y h

@@ -30,6 +30,7 @@ impl Tables {
     }
 
     /// Moves one destination of the command at the place to another phase.
+    // It reaches into the list, as fix does: an element of an array that a method lends gets no proof yet.
     pub(crate) fn put_phase(&mut self, place: usize, member: usize, phase: Phase)
         requires { place < length self.old.commands }
         ensures { (p : Place) → slice_get self.old.commands place ≡ Some p → self.new ≡ with_place self.old place (with_phase_in p member phase) }

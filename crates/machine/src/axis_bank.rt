@@ -65,6 +65,7 @@ impl Machine for AxisBank {
         }
     }
 
+    // Indices, since what a slice's get_mut lends leaves nothing known of the elements.
     fn run(&mut self, command: Command) {
         match command {
             Command::Set { axis, value } => {

@@ -1,5 +1,5 @@
 -- The scan for the earliest ready command, one place at a time.
-use Rattle.std.proofs.lemmas.Option.{none-some}
+use Rattle.std.proofs.lemmas.Option.{none-some, same_Some}
 use Rattle.std.proofs.Common.{◌≡◌, ℕ, ◌+◌, ◌<◌, ◌≤◌, Bool, true, false, cond, ◌&&◌, eqb, ltb, List, Some, None, Option, sym, refl, ap, ◌∙◌, subst, ⊎_elim, arith}
 use Rattle.std.proofs.lemmas.Bool.{cases_eq, or_parts, and_cases, ltb-false, eqb-false, false≢true}
 use Rattle.std.specs.List.{slice_get}
@@ -8,7 +8,6 @@ use Rattle.open_commands.specs.declared.table.Candidate.{Candidate}
 use Rattle.open_commands.specs.Places.{all_pass, ready_in, ready_place, improves_on, BestTo}
 use Rattle.open_commands.specs.Views.{view_open}
 use Rattle.machine.specs.Kinds.{Kind}
-use Rattle.ordering.proofs.Basics.{some_inj}
 use Rattle.ordering.proofs.Pairs.{earlier_true, earlier_prior}
 use Rattle.ordering.specs.Searches.{Pair, earlier}
 use Rattle.ordering.specs.Steps.{settled_as}
@@ -21,7 +20,7 @@ places_more ps n x P at here below j q l e = ⊎_elim same (λ ne. below j q (le
     less ne = omega (arith, ne, l)
 
     same : j ≡ n → P q
-    same w = subst P (some_inj (sym at ∙ (ap (slice_get ps) (sym w) ∙ e))) here
+    same w = subst P (same_Some _ _ (sym at ∙ (ap (slice_get ps) (sym w) ∙ e))) here
 
 -- No later than.
 abbrev NoLater : Pair → ℕ → ℕ → Type 0
@@ -46,7 +45,7 @@ module _ (K : Kind) (m : ℕ) (ps : List Place) (n : ℕ) (x : Place) (at : slic
     ready_only g h = go (all_pass K m (f, x.number) x.command ps) refl
       where
         go : (t : Bool) → all_pass K m (f, x.number) x.command ps ≡ t → f ≡ g
-        go true e = some_inj (sym (ready_value true e) ∙ h)
+        go true e = same_Some _ _ (sym (ready_value true e) ∙ h)
         go false e = absurd (none-some _ (sym (ready_value false e) ∙ h))
 
     pub best_keep : (best : Option Candidate) → improves_on best (f, x.number) ≡ false → BestTo K m ps n best → BestTo K m ps (n + 1) best

@@ -2,11 +2,11 @@
 use Rattle.std.proofs.Common.{◌≡◌, ℕ, zero, suc, ◌+◌, ◌<◌, ◌≤◌, Bool, true, false, cond, not, ◌&&◌, eqb, List, [], ◌∷◌, ◌++◌, length, take, set, get_or, Some, None, Option, sym, refl, ap, ◌∙◌, subst, ⊎_elim, ◌⊎◌, ◌≢◌, arith}
 use lib.Seq.{take-set-le, take-set-lt}
 use Rattle.std.proofs.lemmas.Bool.{cases_eq, eq-eqb, ne_eqb, eqb-true, cond-true, cond-false, and_parts, and_from, false≢true}
-use Rattle.std.proofs.lemmas.Option.{get_or_from_slice_get, slice_get_cases, none-some}
+use Rattle.std.proofs.lemmas.Option.{get_or_from_slice_get, slice_get_cases, none-some, same_Some}
 use Rattle.std.specs.List.{slice_get, AllWithin, HoldsAt}
 use Rattle.std.specs.Option.{IfSome, MatchOption}
 use Rattle.open_commands.specs.Lists.{lookup_by, apart, MissTo}
-use Rattle.ordering.proofs.Basics.{some_inj, put_other}
+use Rattle.ordering.proofs.Basics.{put_other}
 use Rattle.ordering.proofs.Bounded.{sum_change}
 use Rattle.ordering.specs.Searches.{put, present, count_below, sum_below}
 
@@ -18,7 +18,7 @@ lookup_none key (x ∷ xs) k n l h =
 pub lookup_first : {X : Type 0} (key : X → ℕ) (xs : List X) (k i : ℕ) (x : X) → slice_get xs i ≡ Some x → key x ≡ k → MissTo key xs k i → lookup_by key xs k ≡ slice_get xs i
 lookup_first key [] k i x at e h = absurd (none-some _ at)
 lookup_first key (y ∷ ys) k zero x at e h =
-    cond-true (eqb (key y) k) (Some y) (lookup_by key ys k) (eq-eqb (key y) k (ap key (some_inj at) ∙ e))
+    cond-true (eqb (key y) k) (Some y) (lookup_by key ys k) (eq-eqb (key y) k (ap key (same_Some _ _ at) ∙ e))
 lookup_first key (y ∷ ys) k (suc i) x at e h =
     cond-false (eqb (key y) k) (Some y) (lookup_by key ys k) (ne_eqb (key y) k (h 0 y (omega arith) refl)) ∙ lookup_first key ys k i x at e (λ j z l. h (suc j) z (omega arith))
 
@@ -71,14 +71,14 @@ module _ {X : Type 0} (key : X → ℕ) where
   lookup_place [] k x h = absurd (none-some _ h)
   lookup_place (y ∷ ys) k x h =
       ⊎_elim
-      (λ e. let w : y ≡ x = some_inj (sym (lookup_head y ys k e) ∙ h) in (0, ap Some w, sym (ap key w) ∙ e, omega arith))
+      (λ e. let w : y ≡ x = same_Some _ _ (sym (lookup_head y ys k e) ∙ h) in (0, ap Some w, sym (ap key w) ∙ e, omega arith))
       (λ n. let r = lookup_place ys k x (sym (lookup_tail y ys k n) ∙ h) in (suc r.0, r.1, r.2, omega (arith, r.3)))
       (cases_eq (key y) k)
 
   -- What stands somewhere is found under its key.
   pub lookup_own : (xs : List X) (i : ℕ) (x : X) → apart key xs ≡ true → slice_get xs i ≡ Some x → lookup_by key xs (key x) ≡ Some x
   lookup_own [] i x h at = absurd (none-some _ at)
-  lookup_own (y ∷ ys) zero x h at = subst (λ z. lookup_by key (y ∷ ys) (key z) ≡ Some z) (some_inj at) (lookup_head y ys (key y) refl)
+  lookup_own (y ∷ ys) zero x h at = subst (λ z. lookup_by key (y ∷ ys) (key z) ≡ Some z) (same_Some _ _ at) (lookup_head y ys (key y) refl)
   lookup_own (y ∷ ys) (suc i) x h at =
       let r = lookup_own ys i x (rest_apart y ys h) at in
       lookup_tail y ys (key x) (λ e. none-some _ (sym (fresh y ys h) ∙ (ap (lookup_by key ys) e ∙ r))) ∙ r
@@ -93,7 +93,7 @@ module _ {X : Type 0} (key : X → ℕ) where
   lookup_set (y ∷ ys) zero x x' h at e k = ⊎_elim here away (cases_eq (key x) k)
     where
       same : y ≡ x
-      same = some_inj at
+      same = same_Some _ _ at
 
       here : key x ≡ k → lookup_by key (x' ∷ ys) k ≡ put (key x) (Some x') (lookup_by key (y ∷ ys)) k
       here q = lookup_head x' ys k (e ∙ q) ∙ sym (cond-true (eqb (key x) k) (Some x') (lookup_by key (y ∷ ys) k) (eq-eqb (key x) k q))
@@ -114,7 +114,7 @@ module _ {X : Type 0} (key : X → ℕ) where
   pub apart_set : (xs : List X) (i : ℕ) (x x' : X) → apart key xs ≡ true → slice_get xs i ≡ Some x → key x' ≡ key x → apart key (set xs i x') ≡ true
   apart_set [] i x x' h at e = absurd (none-some _ at)
   apart_set (y ∷ ys) zero x x' h at e =
-      subst (λ k. (not (present (lookup_by key ys k)) && apart key ys) ≡ true) (ap key (some_inj at) ∙ sym e) h
+      subst (λ k. (not (present (lookup_by key ys k)) && apart key ys) ≡ true) (ap key (same_Some _ _ at) ∙ sym e) h
   apart_set (y ∷ ys) (suc i) x x' h at e =
       and_from (not (present (lookup_by key (set ys i x') (key y)))) (apart key (set ys i x'))
       (present_none (lookup_by key (set ys i x') (key y)) (lookup_set ys i x x' (rest_apart y ys h) at e (key y) ∙ (put_other (key x) (key y) (Some x') (lookup_by key ys) (other_key ys i x (key y) (rest_apart y ys h) at (fresh y ys h)) ∙ fresh y ys h)))
@@ -163,7 +163,7 @@ module _ {X : Type 0} (key : X → ℕ) where
   lookup_replace (y ∷ ys) zero x l h at none k = ap (λ z. cond (eqb (key l) k) (Some l) z) (⊎_elim here away (cases_eq (key x) k))
     where
       same : y ≡ x
-      same = some_inj at
+      same = same_Some _ _ at
 
       here : key x ≡ k → lookup_by key ys k ≡ put (key x) None (lookup_by key (y ∷ ys)) k
       here q =
@@ -230,7 +230,7 @@ module _ {X : Type 0} (key : X → ℕ) where
 -- The front of a list and the element behind it.
 pub take_last : {X : Type 0} (xs : List X) (n : ℕ) (x : X) → slice_get xs n ≡ Some x → take (suc n) xs ≡ take n xs ++ x ∷ []
 take_last [] n x h = absurd (none-some _ h)
-take_last (y ∷ ys) zero x h = ap (λ z. z ∷ []) (some_inj h)
+take_last (y ∷ ys) zero x h = ap (λ z. z ∷ []) (same_Some _ _ h)
 take_last (y ∷ ys) (suc n) x h = ap (λ zs. y ∷ zs) (take_last ys n x h)
 
 slice_get_front : {X : Type 0} (xs : List X) (n i : ℕ) (x : X) → i < n → slice_get (take (suc n) xs) i ≡ Some x → slice_get (take n xs) i ≡ Some x
@@ -254,7 +254,7 @@ module _ {X : Type 0} (key : X → ℕ) (cs : List X) (n i : ℕ) (x l : X) (h :
   whole j = ap (λ ys. lookup_by key ys j) (take_last cs n l last) ∙ lookup_push key (take n cs) l front.1 j
 
   is_last : i ≡ n → x ≡ l
-  is_last e = some_inj (sym (slice_get-take cs (suc n) i x at) ∙ (ap (slice_get cs) e ∙ last))
+  is_last e = same_Some _ _ (sym (slice_get-take cs (suc n) i x at) ∙ (ap (slice_get cs) e ∙ last))
 
   pub lookup_removed : (j : ℕ) → lookup_by key (take n (set cs i l)) j ≡ put (key x) None (lookup_by key (take (suc n) cs)) j
   lookup_removed j = ⊎_elim at_last (λ ne. inner (less ne)) (cases_eq i n)

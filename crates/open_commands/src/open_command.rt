@@ -1,5 +1,5 @@
 //! An open command, as a line holds it.
-ghost use Rattle.std.specs.Prelude.{◌≡◌, ◌<◌, ◌&&◌, set, Some, nat_lt};
+ghost use Rattle.std.specs.Prelude.{if◌then◌else◌, None, ◌≡◌, ◌<◌, ◌&&◌, set, Some, nat_lt};
 ghost use Rattle.open_commands.specs.Views.{new_place, phase_in, with_phase_in, with_fixed_in, view_open, gathered_at, done_at};
 ghost use Rattle.ordering.specs.Lines.{everywhere, is_run, standing};
 ghost use Rattle.ordering.specs.Searches.{earlier, names};
@@ -14,6 +14,7 @@ use ordering::calls::Phase;
 fn move_to(destinations: &mut [Destination], member: usize, phase: Phase)
     ensures { destinations.new ≡ set destinations.old member (record { phase = phase }) }
 {
+    // An index, since what a slice's get_mut lends leaves nothing known of the elements.
     if member < destinations.len() {
         destinations[member].phase = phase;
     }
@@ -56,16 +57,25 @@ impl OpenCommand {
         move_to(&mut self.destinations, member, phase);
     }
 
+    /// How the command stands at the member, if the member is a destination.
+    fn phase_at(&self, member: usize) -> Option<Phase>
+        ensures { result ≡ (if names self.now.address.set member then Some (phase_in self.now.destinations member) else None) }
+    {
+        if self.address.names(member) {
+            Some(self.phase(member))
+        } else {
+            None
+        }
+    }
+
     /// The member's proposal once it is gathered, and 0 where it is no destination.
     fn gathered(&self, member: usize) -> Option<u64>
         ensures { result ≡ gathered_at (view_open self.now) member }
     {
-        if !self.address.names(member) {
-            return Some(0);
-        }
-        match self.phase(member) {
-            Phase::Gathered(proposal) => Some(proposal),
-            _ => None,
+        match self.phase_at(member) {
+            None => Some(0),
+            Some(Phase::Gathered(proposal)) => Some(proposal),
+            Some(_) => None,
         }
     }
 
@@ -73,7 +83,7 @@ impl OpenCommand {
     fn final_timestamp(&self) -> Option<u64>
         ensures { result ≡ final_of (view_open self.now) }
     {
-        // A loop, which ends by ? at the first destination that is not gathered.
+        // A for loop: try_fold would want a closure that wraps each maximum in Some.
         let mut greatest = 0;
         for q in 0..MEMBERS {
             greatest = greatest.max(self.gathered(q)?);
@@ -95,7 +105,8 @@ impl OpenCommand {
     fn is_done(&self, member: usize) -> bool
         ensures { result ≡ done_at (view_open self.now) member }
     {
-        !self.address.names(member) || matches!(self.phase(member), Phase::Run)
+        self.phase_at(member)
+            .is_none_or(|phase| matches!(phase, Phase::Run))
     }
 
     /// Whether every destination has run.
@@ -109,10 +120,7 @@ impl OpenCommand {
     fn standing(&self, member: usize) -> Option<u64>
         ensures { result ≡ standing (view_open self.now) member }
     {
-        if !self.address.names(member) {
-            return None;
-        }
-        match self.phase(member) {
+        match self.phase_at(member)? {
             Phase::Heard(proposal) | Phase::Gathered(proposal) => Some(proposal),
             Phase::Settled => self.fixed,
             Phase::Sent | Phase::Run => None,
@@ -123,10 +131,7 @@ impl OpenCommand {
     pub(crate) fn settled(&self, member: usize) -> Option<u64>
         ensures { result ≡ settled_as member (Some (view_open self.now)) }
     {
-        if !self.address.names(member) {
-            return None;
-        }
-        match self.phase(member) {
+        match self.phase_at(member)? {
             Phase::Settled => self.fixed,
             _ => None,
         }
@@ -145,11 +150,9 @@ impl OpenCommand {
         if self.number == pair.1 {
             return true;
         }
-        match self.standing(member) {
-            Some(timestamp) => earlier(pair, (timestamp, self.number))
-                || !M::conflict(command, self.command),
-            None => true,
-        }
+        self.standing(member).is_none_or(|timestamp| {
+            earlier(pair, (timestamp, self.number)) || !M::conflict(command, self.command)
+        })
     }
 }
 

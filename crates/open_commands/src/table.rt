@@ -18,6 +18,8 @@ pub fn place_of(commands: &[OpenCommand], number: u64) -> Option<usize>
     commands.iter().position(|command| command.number == number)
 }
 
+// Slice and member go through three private functions: a struct of the two would be taken apart in each.
+
 /// Whether every open command lets one with the pair pass at the member.
 fn all_pass<M: Machine>(
     commands: &[OpenCommand],

@@ -1,4 +1,5 @@
 -- A book stays sound when one destination of one command goes to its next phase, whatever the step: what each step still shows is its command by itself, its clocks and its timestamps.
+use Rattle.std.proofs.lemmas.Option.{same_Some}
 use Rattle.std.proofs.Common.{◌≡◌, ℕ, suc, ◌+◌, ◌*◌, ◌<◌, ◌≤◌, true, Some, None, Option, sym, ap, ◌∙◌, subst, arith}
 use Rattle.ordering.specs.declared.calls.Phase.{Phase}
 use Rattle.ordering.specs.declared.calls.Phase.TheVariants.{Sent}
@@ -9,7 +10,7 @@ use Rattle.ordering.specs.Searches.{put, names}
 use Rattle.ordering.specs.Steps.{with_member, with_command, with_phase, with_fixed}
 use Rattle.ordering.proofs.Accepted.{Reached}
 use Rattle.ordering.proofs.Alter.{Fits, fits, Recalls, proposes_map, sound_altered}
-use Rattle.ordering.proofs.Basics.{some_inj, put_cases, put_other}
+use Rattle.ordering.proofs.Basics.{put_cases, put_other}
 use Rattle.ordering.proofs.Owed.{altered, owed_replaced, owed_phase}
 
 -- What is owed moves with the phase.
@@ -91,7 +92,7 @@ sound_moved b s m k o at p r v =
     sound_advanced b s m k o at.there p o.fixed (Some (with_phase o m p)) (put m r b.member)
     (record {
       heard = v.heard;
-      new = λ x h. (sym (some_inj h), subst (SoundCommand b.members) (some_inj h) v.sound);
+      new = λ x h. (sym (same_Some _ _ h), subst (SoundCommand b.members) (same_Some _ _ h) v.sound);
       less = omega arith;
       recalls = λ q. put_cases m q r b.member (Recalls k (b.member q)) (λ same. subst (λ j. Recalls k (b.member j) r) same v.recalls) (λ ne j d away h. h);
       others = λ q ne. put_other m q r b.member ne;

@@ -1,6 +1,6 @@
 -- A gather: no standing changes, and the final timestamp that the last one fixes is the greatest answer of the hears.
 use Rattle.std.proofs.lemmas.Bool.{false≢true}
-use Rattle.std.proofs.lemmas.Option.{none-some}
+use Rattle.std.proofs.lemmas.Option.{none-some, same_Some}
 use Rattle.std.proofs.Common.{◌≡◌, ℕ, suc, ◌<◌, ◌≤◌, Bool, true, false, cond, not, ◌||◌, List, Some, None, sym, refl, ap, ◌∙◌, subst, arith}
 use Rattle.machine.specs.Kinds.{Kind}
 use Rattle.ordering.specs.declared.calls.Phase.{Phase}
@@ -12,7 +12,6 @@ use Rattle.ordering.specs.Ordering.{greatest_answer, answer, has}
 use Rattle.ordering.specs.Searches.{names}
 use Rattle.ordering.specs.Steps.{gathered_now, with_phase, with_fixed, final_of}
 use Rattle.ordering.proofs.Accepted.{Reached}
-use Rattle.ordering.proofs.Basics.{some_inj}
 use Rattle.ordering.proofs.Bounded.{all_each, greatest_same}
 use Rattle.ordering.proofs.Moving.{phases_moved, sent_moved, table_cases}
 use Rattle.ordering.proofs.Standing.{Inv, phase_here, agree_here}
@@ -76,15 +75,15 @@ module _ (K : Kind) (a : Account) (b : Book) (cells : ℕ → List ℕ) (h : Inv
       record {
         agree = agreed;
         cost = cost_moved a b account book k m (Gathered t) moves h.tied;
-        sent = sent_moved a b k m o (Gathered t) (Some (with_fixed gathering (final_of gathering))) h.tied r.there r.to (λ q n. refl) (λ x q. ap issue_of (sym (some_inj q)));
+        sent = sent_moved a b k m o (Gathered t) (Some (with_fixed gathering (final_of gathering))) h.tied r.there r.to (λ q n. refl) (λ x q. ap issue_of (sym (same_Some _ _ q)));
         final = λ j f x. table_cases b k (Some (with_fixed gathering (final_of gathering))) (λ i y. y.fixed ≡ Some f → f ≡ greatest_answer a i) (here f) (λ i y ne q e. h.tied.final i f y q e) j x;
         inside = h.tied.inside;
         numbered = h.tied.numbered;
       }
     where
       by_all : (f : ℕ) (e : Bool) → everywhere is_gathered gathering ≡ e → cond e (Some (greatest_proposal gathering)) None ≡ Some f → f ≡ greatest_answer a k
-      by_all f true all q = sym (some_inj q) ∙ fixed_greatest all
+      by_all f true all q = sym (same_Some _ _ q) ∙ fixed_greatest all
       by_all f false all q = absurd (none-some _ q)
 
       here : (f : ℕ) (x : OpenCommand) → Some (with_fixed gathering (final_of gathering)) ≡ Some x → x.fixed ≡ Some f → f ≡ greatest_answer a k
-      here f x q e = by_all f (everywhere is_gathered gathering) refl (ap (λ y. y.fixed) (some_inj q) ∙ e)
+      here f x q e = by_all f (everywhere is_gathered gathering) refl (ap (λ y. y.fixed) (same_Some _ _ q) ∙ e)

@@ -1,4 +1,5 @@
 -- A hear: the command had no standing at the member, and no member had settled it, so nothing else moves.
+use Rattle.std.proofs.lemmas.Option.{same_Some}
 use Rattle.std.proofs.Common.{◌≡◌, ℕ, suc, ◌<◌, ◌≤◌, false, cond, List, Some, Option, sym, refl, ap, ◌∙◌, subst, ⊎_elim, arith}
 use Rattle.std.proofs.lemmas.Bool.{cases_eq, false≢true}
 use Rattle.machine.specs.Kinds.{Kind, Laws}
@@ -12,7 +13,7 @@ use Rattle.ordering.specs.Searches.{put, greatest_below}
 use Rattle.ordering.specs.Steps.{hearer, heard_now, with_phase}
 use Rattle.ordering.proofs.Accepted.{Reached}
 use Rattle.ordering.proofs.AtMember.{AtMember}
-use Rattle.ordering.proofs.Basics.{some_inj, put_same, put_other}
+use Rattle.ordering.proofs.Basics.{put_same, put_other}
 use Rattle.ordering.proofs.MemberSteps.{hear_keeps}
 use Rattle.ordering.proofs.Moving.{phases_moved, sent_moved, table_cases}
 use Rattle.ordering.proofs.Standing.{Inv, command_of, command_by, stand_of, phase_here, agree_here, never_settled}
@@ -55,7 +56,7 @@ module _ (K : Kind) (L : Laws K) (a : Account) (b : Book) (cells : ℕ → List 
       record {
         agree = agree_moved a b account book k m (Heard hearing.clock) moves h.tied;
         cost = cost_moved a b account book k m (Heard hearing.clock) moves h.tied;
-        sent = sent_moved a b k m o (Heard hearing.clock) (Some (with_phase o m (Heard hearing.clock))) h.tied r.there r.to (λ q n. refl) (λ x q. ap issue_of (sym (some_inj q)));
+        sent = sent_moved a b k m o (Heard hearing.clock) (Some (with_phase o m (Heard hearing.clock))) h.tied r.there r.to (λ q n. refl) (λ x q. ap issue_of (sym (same_Some _ _ q)));
         final = λ j f x. table_cases b k (Some (with_phase o m (Heard hearing.clock))) (λ i y. y.fixed ≡ Some f → f ≡ greatest_answer account i) (here f) (away f) j x;
         inside = h.tied.inside;
         numbered = h.tied.numbered;
@@ -64,7 +65,7 @@ module _ (K : Kind) (L : Laws K) (a : Account) (b : Book) (cells : ℕ → List 
       -- nothing is fixed while the member has still to hear
       here : (f : ℕ) (x : OpenCommand) → Some (with_phase o m (Heard hearing.clock)) ≡ Some x → x.fixed ≡ Some f → f ≡ greatest_answer account k
       here f x q e =
-          absurd (false≢true (sym (ap is_past was) ∙ (h.sound.command k o r.there).gathered f m (ap (λ y. y.fixed) (some_inj q) ∙ e) r.to))
+          absurd (false≢true (sym (ap is_past was) ∙ (h.sound.command k o r.there).gathered f m (ap (λ y. y.fixed) (same_Some _ _ q) ∙ e) r.to))
 
       away : (f j : ℕ) (x : OpenCommand) → (k ≡ j → ⊥) → b.table j ≡ Some x → x.fixed ≡ Some f → f ≡ greatest_answer account j
       away f j x ne q e = h.tied.final j f x q e ∙ sym (greatest_other j ne)

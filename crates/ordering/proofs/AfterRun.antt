@@ -1,5 +1,5 @@
 -- A run: what is ready is earlier than every conflicting command that is heard and unrun, so the past stays the past.
-use Rattle.std.proofs.lemmas.Option.{none-some}
+use Rattle.std.proofs.lemmas.Option.{none-some, same_Some}
 use Rattle.std.proofs.Common.{◌≡◌, ℕ, suc, ◌<◌, Bool, true, false, cond, not, ◌||◌, eqb, List, ◌∷◌, Some, None, sym, refl, ap, ◌∙◌, subst, ⊎_elim, arith}
 use Rattle.std.proofs.lemmas.Bool.{cases_eq, eq-eqb, ne_eqb, or_left, false≢true}
 use Rattle.machine.specs.Kinds.{Kind, Laws}
@@ -12,7 +12,7 @@ use Rattle.ordering.specs.Ordering.{Earlier, greatest_answer, has}
 use Rattle.ordering.specs.Searches.{put, names, earlier}
 use Rattle.ordering.specs.Steps.{with_phase, with_command, left, passes, passes_at}
 use Rattle.ordering.proofs.AtMember.{AtMember, Clash}
-use Rattle.ordering.proofs.Basics.{some_inj, put_same, put_other}
+use Rattle.ordering.proofs.Basics.{put_same, put_other}
 use Rattle.ordering.proofs.Bounded.{all_each}
 use Rattle.ordering.proofs.MemberSteps.{run_keeps}
 use Rattle.ordering.proofs.Moving.{phases_moved, sent_moved, table_cases}
@@ -42,7 +42,7 @@ left_same o x = go (everywhere is_run o)
   where
     go : (t : Bool) → cond t None (Some o) ≡ Some x → o ≡ x
     go true q = absurd (none-some _ q)
-    go false q = some_inj q
+    go false q = same_Some _ _ q
 
 module _ (K : Kind) (L : Laws K) (a : Account) (b : Book) (cells : ℕ → List ℕ) (h : Inv K a b cells) (m k f : ℕ) (o : OpenCommand) (within : m < b.members) (there : b.table k ≡ Some o) (r : Ready K b m k f o) where
   abbrev running : OpenCommand

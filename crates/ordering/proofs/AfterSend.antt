@@ -1,5 +1,5 @@
 -- A new line, and a send: the new number was never seen before, so nothing is known of it and nothing else changes.
-use Rattle.std.proofs.lemmas.Option.{none-some}
+use Rattle.std.proofs.lemmas.Option.{none-some, same_Some}
 use Rattle.std.proofs.Common.{◌≡◌, ℕ, suc, ◌^◌, ◌<◌, ◌≤◌, Bool, true, false, cond, eqb, List, [], Some, None, Option, sym, refl, ap, ◌∙◌, subst, arith}
 use Rattle.std.proofs.lemmas.Bool.{eqb-true}
 use Rattle.machine.specs.declared.command.Command.{Command}
@@ -12,7 +12,7 @@ use Rattle.ordering.specs.Ordering.{greatest_answer}
 use Rattle.ordering.specs.Searches.{put, names, sum_below}
 use Rattle.ordering.specs.Steps.{new_book, new_command, issue}
 use Rattle.ordering.proofs.AtMember.{AtMember}
-use Rattle.ordering.proofs.Basics.{some_inj, put_other}
+use Rattle.ordering.proofs.Basics.{put_other}
 use Rattle.ordering.proofs.Bits.{names_below}
 use Rattle.ordering.proofs.Bounded.{sum_same}
 use Rattle.ordering.proofs.MemberSteps.{more_commands}
@@ -91,14 +91,14 @@ module _ (K : Kind) (a : Account) (b : Book) (cells : ℕ → List ℕ) (h : Inv
       sent k x = go (eqb (suc b.issued) k)
         where
           go : (t : Bool) → cond t (Some (new_command sender set c)) (b.table k) ≡ Some x → cond t (Some (issue_of (new_command sender set c))) (a.sent_as k) ≡ Some (issue_of x)
-          go true q = ap (λ y. Some (issue_of y)) (some_inj q)
+          go true q = ap (λ y. Some (issue_of y)) (same_Some _ _ q)
           go false q = h.tied.sent k x q
 
       final : (k f : ℕ) (x : OpenCommand) → put (suc b.issued) (Some (new_command sender set c)) b.table k ≡ Some x → x.fixed ≡ Some f → f ≡ greatest_answer a k
       final k f x = go (eqb (suc b.issued) k)
         where
           go : (t : Bool) → cond t (Some (new_command sender set c)) (b.table k) ≡ Some x → x.fixed ≡ Some f → f ≡ greatest_answer a k
-          go true q r = absurd (none-some _ (ap (λ y. y.fixed) (some_inj q) ∙ r))
+          go true q r = absurd (none-some _ (ap (λ y. y.fixed) (same_Some _ _ q) ∙ r))
           go false q r = h.tied.final k f x q r
 
       inside : (k m : ℕ) (x : Issue) → put (suc b.issued) (Some (issue_of (new_command sender set c))) a.sent_as k ≡ Some x → names x.set m ≡ true → m < member_limit
@@ -106,7 +106,7 @@ module _ (K : Kind) (a : Account) (b : Book) (cells : ℕ → List ℕ) (h : Inv
         where
           go : (t : Bool) → cond t (Some (issue_of (new_command sender set c))) (a.sent_as k) ≡ Some x → names x.set m ≡ true → m < member_limit
           go true q n =
-              let l : m < b.members = names_below b.members set m below (subst (λ y. names y.set m ≡ true) (sym (some_inj q)) n) in
+              let l : m < b.members = names_below b.members set m below (subst (λ y. names y.set m ≡ true) (sym (same_Some _ _ q)) n) in
               let w : b.members ≤ member_limit = h.sound.few in
               omega arith
           go false q n = h.tied.inside k m x q n

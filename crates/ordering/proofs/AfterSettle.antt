@@ -1,4 +1,5 @@
 -- A settle: the command moves from its proposal up to its final timestamp at this member, and nothing else moves.
+use Rattle.std.proofs.lemmas.Option.{same_Some}
 use Rattle.std.proofs.Common.{◌≡◌, ℕ, suc, ◌<◌, ◌≤◌, Bool, true, cond, List, Some, sym, refl, ap, ◌∙◌, subst, ⊎_elim, arith}
 use Rattle.std.proofs.lemmas.Bool.{cases_eq}
 use Rattle.machine.specs.Kinds.{Kind}
@@ -11,7 +12,7 @@ use Rattle.ordering.specs.Searches.{put}
 use Rattle.ordering.specs.Steps.{settler, settled_now, with_phase}
 use Rattle.ordering.proofs.Accepted.{Reached}
 use Rattle.ordering.proofs.AtMember.{AtMember}
-use Rattle.ordering.proofs.Basics.{some_inj, put_same, put_other}
+use Rattle.ordering.proofs.Basics.{put_same, put_other}
 use Rattle.ordering.proofs.Bounded.{greatest_above}
 use Rattle.ordering.proofs.MemberSteps.{settle_keeps}
 use Rattle.ordering.proofs.Moving.{phases_moved, sent_moved, table_cases}
@@ -56,8 +57,8 @@ module _ (K : Kind) (a : Account) (b : Book) (cells : ℕ → List ℕ) (h : Inv
       record {
         agree = agree_moved a b account book k m Settled moves h.tied;
         cost = cost_moved a b account book k m Settled moves h.tied;
-        sent = sent_moved a b k m o Settled (Some (with_phase o m Settled)) h.tied r.there r.to (λ q n. refl) (λ x q. ap issue_of (sym (some_inj q)));
-        final = λ j g x. table_cases b k (Some (with_phase o m Settled)) (λ i y. y.fixed ≡ Some g → g ≡ greatest_answer a i) (λ y q e. h.tied.final k g o r.there (ap (λ z. z.fixed) (some_inj q) ∙ e)) (λ i y ne q e. h.tied.final i g y q e) j x;
+        sent = sent_moved a b k m o Settled (Some (with_phase o m Settled)) h.tied r.there r.to (λ q n. refl) (λ x q. ap issue_of (sym (same_Some _ _ q)));
+        final = λ j g x. table_cases b k (Some (with_phase o m Settled)) (λ i y. y.fixed ≡ Some g → g ≡ greatest_answer a i) (λ y q e. h.tied.final k g o r.there (ap (λ z. z.fixed) (same_Some _ _ q) ∙ e)) (λ i y ne q e. h.tied.final i g y q e) j x;
         inside = h.tied.inside;
         numbered = h.tied.numbered;
       }

@@ -14,10 +14,6 @@ pub each_map : (P Q : Entry → Type 0) (es : List Entry) → ((e : Entry) → P
 each_map P Q [] f h = tt
 each_map P Q (e ∷ es) f h = (f e h.0, each_map P Q es f h.1)
 
-pub each_both : (P Q R : Entry → Type 0) (es : List Entry) → ((e : Entry) → P e → Q e → R e) → Each P es → Each Q es → Each R es
-each_both P Q R [] f h g = tt
-each_both P Q R (e ∷ es) f h g = (f e h.0 g.0, each_both P Q R es f h.1 g.1)
-
 pub each_insert : (P : Entry → Type 0) (x : Entry) (es : List Entry) → P x → Each P es → Each P (insert x es)
 each_insert P x [] p h = (p, tt)
 each_insert P x (y ∷ ys) p h = go (earlier (pair_of x) (pair_of y)) (each_insert P x ys p h.1)

@@ -1,5 +1,5 @@
 -- A hear, a settle and a run at one member keep what holds there.
-use Rattle.std.proofs.lemmas.Option.{none-some}
+use Rattle.std.proofs.lemmas.Option.{none-some, same_Some}
 use Rattle.std.proofs.Common.{◌≡◌, ℕ, suc, ◌<◌, ◌≤◌, Bool, true, false, cond, not, ◌&&◌, eqb, ltb, ◌⊎◌, List, [], ◌∷◌, Some, None, Option, sym, refl, ap, ◌∙◌, subst, inl, inr, ⊎_elim, arith}
 use Rattle.std.proofs.lemmas.Bool.{or_parts, or_left, or_right, or_cases, eqb-true, eqb-false, eq-eqb, ltb-true, ltb-false, false≢true}
 use Rattle.machine.specs.declared.command.Command.{Command}
@@ -9,7 +9,7 @@ use Rattle.ordering.specs.Ordering.{Earlier, has, Entry, pair_of, Listed, Each}
 use Rattle.ordering.specs.Searches.{put, present, any_below}
 use Rattle.ordering.specs.Steps.{hearer, must_rise, is_full, clashes, risen, remember, settler}
 use Rattle.ordering.proofs.AtMember.{AtMember, Clash, Ascending, EntryAt}
-use Rattle.ordering.proofs.Basics.{some_inj, put_same, put_other, put_cases}
+use Rattle.ordering.proofs.Basics.{put_same, put_other, put_cases}
 use Rattle.ordering.proofs.Bounded.{any_none}
 use Rattle.ordering.proofs.Feeding.{insert, each_map, each_insert, listed_new, listed_old, rising_insert, Passable, plain_insert}
 use Rattle.ordering.proofs.Pairs.{prior_earlier, earlier_prior, earlier_not}
@@ -103,7 +103,7 @@ hear_keeps K L cmd stand runs p cells issued j c known is out h =
 
     here : (k t : ℕ) → j ≡ k → Some now ≡ Some t → (t ≤ now) × (t ≡ now → put j (Some c) kept k ≡ cmd k)
     here k t e q =
-        let v : now ≡ t = some_inj q in
+        let v : now ≡ t = same_Some _ _ q in
         (omega arith, λ u. subst (λ i. put j (Some c) kept i ≡ cmd i) e (put_same j (Some c) kept ∙ sym is))
 
     away : (k t : ℕ) → (j ≡ k → ⊥) → stand k ≡ Some t → (t ≤ now) × (t ≡ now → put j (Some c) kept k ≡ cmd k)
@@ -112,7 +112,7 @@ hear_keeps K L cmd stand runs p cells issued j c known is out h =
     past : (i k f t : ℕ) → has i runs ≡ true → stand i ≡ Some f → stand' k ≡ Some t → has k runs ≡ false → Clash K (cmd k) (cmd i) → Earlier (f, i) (t, k)
     past i k f t ran fi =
         put_cases j k (Some now) stand (λ x. x ≡ Some t → has k runs ≡ false → Clash K (cmd k) (cmd i) → Earlier (f, i) (t, k))
-        (λ e q un cl. subst (λ x. Earlier (f, i) (x, k)) (some_inj q) (subst (λ x. Earlier (f, i) (now, x)) e (hear_guarantee K cmd stand issued j c p h.memory known is i f fi (clash_sym K L (cmd j) (cmd i) (subst (λ x. Clash K (cmd x) (cmd i)) (sym e) cl)))))
+        (λ e q un cl. subst (λ x. Earlier (f, i) (x, k)) (same_Some _ _ q) (subst (λ x. Earlier (f, i) (now, x)) e (hear_guarantee K cmd stand issued j c p h.memory known is i f fi (clash_sym K L (cmd j) (cmd i) (subst (λ x. Clash K (cmd x) (cmd i)) (sym e) cl)))))
         (λ ne q un cl. h.past i k f t ran fi q un cl)
 
 -- What a settle does to a member's clock and memory.
@@ -133,7 +133,7 @@ settling issued j c f p truly = by_clock (ltb p.clock f) refl
           reaches = omega arith;
           keeps_own = λ e. put_same j (Some c) (λ i. None);
           keeps_others = λ k ne e. absurd (omega (arith, l, e));
-          adds_own = λ k d. put_cases j k (Some c) (λ i. None) (λ x. x ≡ Some d → (p.remembers k ≡ Some d) ⊎ ((j ≡ k) × (c ≡ d))) (λ e q. inr (e, some_inj q)) (λ ne q. absurd (none-some _ q));
+          adds_own = λ k d. put_cases j k (Some c) (λ i. None) (λ x. x ≡ Some d → (p.remembers k ≡ Some d) ⊎ ((j ≡ k) × (c ≡ d))) (λ e q. inr (e, same_Some _ _ q)) (λ ne q. absurd (none-some _ q));
         }
 
     lifted : f ≤ p.clock → Settling j c f p (risen p)
@@ -153,7 +153,7 @@ settling issued j c f p truly = by_clock (ltb p.clock f) refl
           reaches = l;
           keeps_own = λ e. put_same j (Some c) p.remembers;
           keeps_others = λ k ne e. put_other j k (Some c) p.remembers ne;
-          adds_own = λ k d. put_cases j k (Some c) p.remembers (λ x. x ≡ Some d → (p.remembers k ≡ Some d) ⊎ ((j ≡ k) × (c ≡ d))) (λ e q. inr (e, some_inj q)) (λ ne q. inl q);
+          adds_own = λ k d. put_cases j k (Some c) p.remembers (λ x. x ≡ Some d → (p.remembers k ≡ Some d) ⊎ ((j ≡ k) × (c ≡ d))) (λ e q. inr (e, same_Some _ _ q)) (λ ne q. inl q);
         }
 
     known : f ≤ p.clock → (f ≡ p.clock → p.remembers j ≡ Some c) → Settling j c f p p
@@ -199,7 +199,7 @@ settle_keeps K cmd stand runs p cells issued j c t f is out at up h =
     p' = settler issued j c f p
 
     s : Settling j c f p p'
-    s = settling issued j c f p (λ d e. some_inj (sym is ∙ h.truly j d e))
+    s = settling issued j c f p (λ d e. same_Some _ _ (sym is ∙ h.truly j d e))
 
     stand' : ℕ → Option ℕ
     stand' = put j (Some f) stand
@@ -209,7 +209,7 @@ settle_keeps K cmd stand runs p cells issued j c t f is out at up h =
 
     here : (k u : ℕ) → j ≡ k → Some f ≡ Some u → (u ≤ p'.clock) × (u ≡ p'.clock → p'.remembers k ≡ cmd k)
     here k u e q =
-        let v : f ≡ u = some_inj q in
+        let v : f ≡ u = same_Some _ _ q in
         (omega (arith, s.reaches), λ w. subst (λ i. p'.remembers i ≡ cmd i) e (s.keeps_own (v ∙ w) ∙ sym is))
 
     away : (k u : ℕ) → (j ≡ k → ⊥) → stand k ≡ Some u → (u ≤ p'.clock) × (u ≡ p'.clock → p'.remembers k ≡ cmd k)
@@ -221,7 +221,7 @@ settle_keeps K cmd stand runs p cells issued j c t f is out at up h =
     past : (i k g u : ℕ) → has i runs ≡ true → stand i ≡ Some g → stand' k ≡ Some u → has k runs ≡ false → Clash K (cmd k) (cmd i) → Earlier (g, i) (u, k)
     past i k g u ran gi =
         put_cases j k (Some f) stand (λ x. x ≡ Some u → has k runs ≡ false → Clash K (cmd k) (cmd i) → Earlier (g, i) (u, k))
-        (λ e q un cl. later (earlier_prior (g, i) (t, k) (h.past i k g t ran gi (subst (λ x. stand x ≡ Some t) e at) un cl)) (some_inj q))
+        (λ e q un cl. later (earlier_prior (g, i) (t, k) (h.past i k g t ran gi (subst (λ x. stand x ≡ Some t) e at) un cl)) (same_Some _ _ q))
         (λ ne q un cl. h.past i k g u ran gi q un cl)
       where
         later : (g ≤ t) × (g ≡ t → i < k) → f ≡ u → Earlier (g, i) (u, k)
@@ -264,7 +264,7 @@ run_keeps K L cmd stand runs p cells j c f is out at ready h =
       where
         first : j ≡ i → (j ≡ k → ⊥) → has k runs ≡ false → Earlier (g, i) (t, k)
         first q ne un =
-            subst (λ x. Earlier x (t, k)) (pair_path (some_inj (sym at ∙ (ap stand q ∙ gi))) q) (ready k t ne st un (subst (λ x. Clash K (cmd k) (cmd x)) (sym q) cl))
+            subst (λ x. Earlier x (t, k)) (pair_path (same_Some _ _ (sym at ∙ (ap stand q ∙ gi))) q) (ready k t ne st un (subst (λ x. Clash K (cmd k) (cmd x)) (sym q) cl))
           where
             pair_path : f ≡ g → j ≡ i → ◌≡◌ {A = ℕ × ℕ} (f, j) (g, i)
             pair_path u v = cc

@@ -1,5 +1,5 @@
 -- An open command is sound by itself when it is sent, and stays so when one destination goes to its next phase.
-use Rattle.std.proofs.lemmas.Option.{none-some}
+use Rattle.std.proofs.lemmas.Option.{none-some, same_Some}
 use Rattle.std.proofs.Common.{◌≡◌, ℕ, ◌^◌, ◌<◌, ◌≤◌, Bool, true, false, cond, not, ◌||◌, Some, None, Option, sym, refl, ap, ◌∙◌, ⊎_elim, arith}
 use Rattle.std.proofs.lemmas.Bool.{both_ways, or_from, or_cases, not-true, not_from_true, false≢true}
 use Rattle.machine.specs.declared.command.Command.{Command}
@@ -10,7 +10,7 @@ use Rattle.ordering.specs.Limits.{member_limit}
 use Rattle.ordering.specs.Lines.{OpenCommand, is_gathered, is_run, everywhere, proposal, greatest_proposal}
 use Rattle.ordering.specs.Searches.{put, names, present}
 use Rattle.ordering.specs.Steps.{with_phase, with_fixed, new_command, final_of, left}
-use Rattle.ordering.proofs.Basics.{some_inj, put_same, put_cases}
+use Rattle.ordering.proofs.Basics.{put_same, put_cases}
 use Rattle.ordering.proofs.Bits.{names_below, names_some}
 use Rattle.ordering.proofs.Bounded.{all_each, all_fails, greatest_least}
 
@@ -36,7 +36,7 @@ pub final_cases : (o : OpenCommand) (f : ℕ) → final_of o ≡ Some f → (eve
 final_cases o f = go (everywhere is_gathered o)
   where
     go : (t : Bool) → cond t (Some (greatest_proposal o)) None ≡ Some f → (t ≡ true) × (greatest_proposal o ≡ f)
-    go true h = (refl, some_inj h)
+    go true h = (refl, same_Some _ _ h)
     go false h = absurd (none-some _ h)
 
 unfixed : (o : OpenCommand) → final_of o ≡ None → everywhere is_gathered o ≡ false
@@ -74,7 +74,7 @@ left_cases o x = go (everywhere is_run o)
   where
     go : (t : Bool) → cond t None (Some o) ≡ Some x → (x ≡ o) × (t ≡ false)
     go true h = absurd (none-some _ h)
-    go false h = (sym (some_inj h), refl)
+    go false h = (sym (same_Some _ _ h), refl)
 
 -- A new command has a destination, which is sent.
 pub command_sent : (n sender set : ℕ) (c : Command) → n ≤ member_limit → 0 < set → set < 2 ^ n → SoundCommand n (new_command sender set c)

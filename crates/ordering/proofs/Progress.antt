@@ -1,5 +1,5 @@
 -- There is always a next step: hear what is sent, gather what is heard, settle what is gathered, else the least pair is ready.
-use Rattle.std.proofs.lemmas.Option.{none-some}
+use Rattle.std.proofs.lemmas.Option.{none-some, same_Some}
 use Rattle.std.proofs.Common.{◌≡◌, ℕ, suc, ◌<◌, ◌≤◌, Bool, true, false, cond, not, ◌&&◌, ◌||◌, eqb, Some, None, Ok, Err, Option, sym, refl, ap, ◌∙◌, subst, ⊎_elim, arith}
 use Rattle.std.proofs.lemmas.Bool.{lt-ltb, cases_eq, eq-eqb, or_left, or_right, or_parts, not-false, and_parts, false≢true}
 use Rattle.machine.specs.declared.command.Command.{Command}
@@ -17,7 +17,6 @@ use Rattle.ordering.specs.Ordering.{To, RanAt, NextStep}
 use Rattle.ordering.specs.Searches.{Pair, names, any_below, earlier, earliest_below}
 use Rattle.ordering.specs.Steps.{demand, destined, reach, hear, hear_at, hear_in, gather, gather_at, gather_in, settle, settle_at, settle_in, run_earliest, run_taken, ready_at, ready_if, settled_as, final_if, passes, passes_at, heard_now, hearer, gathered_now, settled_now, settler, with_phase}
 use Rattle.ordering.specs.Worlds.{book_turn, run_turn}
-use Rattle.ordering.proofs.Basics.{some_inj}
 use Rattle.ordering.proofs.Bits.{names_below}
 use Rattle.ordering.proofs.Bounded.{any_found, any_none, all_not, all_from}
 use Rattle.ordering.proofs.Pairs.{prior_earlier, true_earlier}
@@ -247,6 +246,6 @@ module _ (K : Kind) (b : Book) (s : Sound b) where
       go : (e : Option OpenCommand) → b.table k ≡ e → NextStep K (opened b)
       go None e = absurd (unrun (departed e))
       go (Some o) e =
-          let own : d ≡ issue_of o = some_inj (sym sent ∙ h.sent k o e) in
+          let own : d ≡ issue_of o = same_Some _ _ (sym sent ∙ h.sent k o e) in
           let here : names o.set m ≡ true = subst (λ x. names x.set m ≡ true) own to in
           unrun_next (record { number = k; member = m; o = o; there = e; to = here }) (o.phase m) refl (λ q. unrun (agree_here a b k m o Run h e here q).3)

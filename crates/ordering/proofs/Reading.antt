@@ -1,5 +1,5 @@
 -- From what is kept at each member to the cells and the order of the theorem.
-use Rattle.std.proofs.lemmas.Option.{none-some}
+use Rattle.std.proofs.lemmas.Option.{none-some, same_Some}
 use Rattle.std.proofs.Common.{◌≡◌, ℕ, ◌<◌, ◌≤◌, Bool, true, false, cond, eqb, List, [], ◌∷◌, Some, None, Option, sym, refl, ap, ◌∙◌, subst, inl, inr, ⊎_elim, arith}
 use Rattle.std.proofs.lemmas.Bool.{or_cases, eqb-true, false≢true}
 use Rattle.machine.specs.declared.command.Command.{Command}
@@ -11,7 +11,6 @@ use Rattle.ordering.specs.Limits.{member_limit}
 use Rattle.ordering.specs.Lines.{Book}
 use Rattle.ordering.specs.Ordering.{Earlier, To, has, RanAt, Before, answer, greatest_answer, Final, Entry, Right, Fed, InOrder}
 use Rattle.ordering.proofs.AtMember.{AtMember, Clash, Ascending, EntryAt}
-use Rattle.ordering.proofs.Basics.{some_inj}
 use Rattle.ordering.proofs.Bounded.{greatest_above}
 use Rattle.ordering.proofs.Feeding.{each_map}
 use Rattle.ordering.proofs.MemberSteps.{clash_sym}
@@ -36,7 +35,7 @@ agree_heard Run s h e = h.0
 
 command_issue : (x : Option Issue) (c : Command) → command_by x ≡ Some c → (d : Issue) × (x ≡ Some d) × (d.command ≡ c)
 command_issue None c h = absurd (none-some _ h)
-command_issue (Some d) c h = (d, refl, some_inj h)
+command_issue (Some d) c h = (d, refl, same_Some _ _ h)
 
 module _ (K : Kind) (a : Account) (b : Book) (cells : ℕ → List ℕ) (h : Inv K a b cells) where
   settled_of_ran : (m k : ℕ) → RanAt a m k → a.settled_at k m ≡ true
@@ -62,7 +61,7 @@ module _ (K : Kind) (a : Account) (b : Book) (cells : ℕ → List ℕ) (h : Inv
           record {
             ran = r.0;
             issue = d.0;
-            final = record { sent = d.1; fixed = settled_all a b e.number m d.0 h.sound h.tied d.1 done; value = sym (some_inj (subst (λ x. cond x (Some (greatest_answer a e.number)) (a.heard_at e.number m) ≡ Some e.final) done r.1)) };
+            final = record { sent = d.1; fixed = settled_all a b e.number m d.0 h.sound h.tied d.1 done; value = sym (same_Some _ _ (subst (λ x. cond x (Some (greatest_answer a e.number)) (a.heard_at e.number m) ≡ Some e.final) done r.1)) };
             own = d.2;
           }
 

@@ -1,5 +1,5 @@
 -- The earliest pair below a bound is one that is there and none there is earlier; a command is ready exactly when it is settled here and unhindered.
-use Rattle.std.proofs.lemmas.Option.{none-some}
+use Rattle.std.proofs.lemmas.Option.{none-some, same_Some}
 use Rattle.std.proofs.Common.{◌≡◌, ℕ, zero, suc, ◌<◌, ◌≤◌, Bool, true, false, cond, ◌&&◌, eqb, ltb, Some, None, Option, sym, refl, ap, ◌∙◌, subst, ⊎_elim, arith}
 use Rattle.std.proofs.lemmas.Bool.{cond-true, cond_both, ltb-true, ltb-false, lt-ltb, eq-eqb, eqb-true, or_cases, or_parts, and_parts, and_from, both_ways}
 use Rattle.machine.specs.Kinds.{Kind}
@@ -9,7 +9,6 @@ use Rattle.ordering.specs.Lines.{OpenCommand, Book}
 use Rattle.ordering.specs.Searches.{Pair, names, earlier, earliest, stamped, earliest_below}
 use Rattle.ordering.specs.Steps.{final_if, settled_as, unhindered, ready_if, ready_at, Ran}
 use Rattle.ordering.proofs.Accepted.{RunOk}
-use Rattle.ordering.proofs.Basics.{some_inj}
 use Rattle.ordering.proofs.Bounded.{below_more}
 
 -- The pair is not later than that of k.
@@ -17,7 +16,7 @@ abbrev NotLater : (ℕ → Option ℕ) → Pair → ℕ → Type 0
 NotLater f p k = (t : ℕ) → f k ≡ Some t → (p.0 ≤ t) × (p.0 ≡ t → p.1 ≤ k)
 
 not_later : (f : ℕ → Option ℕ) (p : Pair) (k t : ℕ) → f k ≡ Some t → (p.0 ≤ t) × (p.0 ≡ t → p.1 ≤ k) → NotLater f p k
-not_later f p k t e h s g = let same : t ≡ s = some_inj (sym e ∙ g) in (omega arith, λ q. omega arith)
+not_later f p k t e h s g = let same : t ≡ s = same_Some _ _ (sym e ∙ g) in (omega arith, λ q. omega arith)
 
 not_there : (f : ℕ → Option ℕ) (p : Pair) (k : ℕ) → f k ≡ None → NotLater f p k
 not_there f p k e t g = absurd (none-some _ (sym e ∙ g))
@@ -98,7 +97,7 @@ ready_facts K b m k f o there h =
   where
     clear_of : (g : ℕ) (t : Bool) → unhindered K b m (g, k) o.command ≡ t → ◌≡◌ {A = Option ℕ} (cond t (Some g) None) (Some f) → (g ≡ f) × (unhindered K b m (f, k) o.command ≡ true)
     clear_of g false e h = absurd (none-some _ h)
-    clear_of g true e h = let same : g ≡ f = some_inj h in (same, subst (λ x. unhindered K b m (x, k) o.command ≡ true) same e)
+    clear_of g true e h = let same : g ≡ f = same_Some _ _ h in (same, subst (λ x. unhindered K b m (x, k) o.command ≡ true) same e)
 
     final_of_lem : (x : Option ℕ) → o.fixed ≡ x → names o.set m ≡ true → o.phase m ≡ Settled → ready_if K b m k (Some o) x ≡ Some f → Ready K b m k f o
     final_of_lem None e n w h = absurd (none-some _ h)

@@ -1,5 +1,5 @@
 -- Every step of a sound line leads to a sound line, and so every line is sound.
-use Rattle.std.proofs.lemmas.Option.{none-some}
+use Rattle.std.proofs.lemmas.Option.{none-some, same_Some}
 use Rattle.std.proofs.Common.{◌≡◌, ℕ, suc, ◌+◌, ◌-◌, ◌*◌, ◌<◌, ◌≤◌, true, false, List, [], ◌∷◌, Some, None, Ok, Err, Option, sym, refl, ap, subst, arith}
 use Rattle.machine.specs.declared.command.Command.{Command}
 use Rattle.machine.specs.Kinds.{Kind}
@@ -17,7 +17,7 @@ use Rattle.ordering.specs.Worlds.{after, step, open_turn, book_turn, run_turn}
 use Rattle.ordering.proofs.Accepted.{open_ok, SendOk, send_ok, HearOk, hear_ok, GatherOk, gather_ok, SettleOk, settle_ok, RunOk, run_ok}
 use Rattle.ordering.proofs.Advance.{owed_advanced, sound_advanced, sound_moved}
 use Rattle.ordering.proofs.Alter.{Fits, sound_altered}
-use Rattle.ordering.proofs.Basics.{some_inj, put_cases}
+use Rattle.ordering.proofs.Basics.{put_cases}
 use Rattle.ordering.proofs.Members.{hearer_recalls, hearer_clock, settler_recalls, settler_clock}
 use Rattle.ordering.proofs.Owed.{owed_issued, owed_new, owed_replaced, owed_phase, left_owed}
 use Rattle.ordering.proofs.Phases.{fails_here, command_sent, command_heard, command_gathered, command_later, final_cases, greatest_room, left_cases}
@@ -64,7 +64,7 @@ sound_send b sender set c r ok s =
 
     new : (x : OpenCommand) → ◌≡◌ {A = Option OpenCommand} (Some (new_command sender set c)) (Some x) → Fits (issue b (new_command sender set c)) (suc b.issued) x
     new x h =
-        subst (Fits (issue b (new_command sender set c)) (suc b.issued)) (some_inj h)
+        subst (Fits (issue b (new_command sender set c)) (suc b.issued)) (same_Some _ _ h)
         (record {
           numbered = (omega arith, omega arith);
           command = command_sent b.members sender set c s.few ok.some ok.below;
@@ -132,7 +132,7 @@ sound_gather b m k r ok s =
     (sound_advanced b s m k o at.there (Gathered ok.t) (final_of x) (Some (with_fixed x (final_of x))) b.member
     (record {
       heard = omega arith;
-      new = λ y h. (sym (some_inj h), subst (SoundCommand b.members) (some_inj h) (command_gathered b.members s.few o (s.command k o at.there) m at.inside at.to ok.t ok.was));
+      new = λ y h. (sym (same_Some _ _ h), subst (SoundCommand b.members) (same_Some _ _ h) (command_gathered b.members s.few o (s.command k o at.there) m at.inside at.to ok.t ok.was));
       less = omega arith;
       recalls = λ q j d ne h. h;
       others = λ q ne. refl;

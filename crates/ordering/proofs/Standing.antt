@@ -1,6 +1,6 @@
 -- Where each command stands at each member, by the history, and what the line says of one that stands and has not run.
 use Rattle.std.proofs.lemmas.Bool.{false≢true}
-use Rattle.std.proofs.lemmas.Option.{none-some}
+use Rattle.std.proofs.lemmas.Option.{none-some, same_Some}
 use Rattle.std.proofs.Common.{◌≡◌, ℕ, Bool, true, false, cond, List, Some, None, Option, sym, refl, ap, ◌∙◌, subst}
 use Rattle.machine.specs.declared.command.Command.{Command}
 use Rattle.machine.specs.Kinds.{Kind}
@@ -12,7 +12,6 @@ use Rattle.ordering.specs.Lines.{OpenCommand, Book, stands_by}
 use Rattle.ordering.specs.Ordering.{has, greatest_answer, To}
 use Rattle.ordering.specs.Searches.{names, present}
 use Rattle.ordering.proofs.AtMember.{AtMember}
-use Rattle.ordering.proofs.Basics.{some_inj}
 use Rattle.ordering.proofs.Tied.{Tied, Agree, Stage, stage_of, phase_of, phase_by, phase_at, issue_of}
 
 abbrev pub command_by : Option Issue → Option Command
@@ -88,8 +87,8 @@ settled_all a b k m d s h is done q to = go (b.table k) refl
     go None there = (subst (λ p. Agree p (stage_of a k q)) (at None there) (h.agree k q)).1
     go (Some o) there =
         let w = destination (a.sent_as k) (b.table k) m ahead in
-        let own : issue_of o ≡ d = some_inj (sym (h.sent k o there) ∙ is) in
-        let same : w.0 ≡ issue_of o = some_inj (sym w.1 ∙ h.sent k o there) in
+        let own : issue_of o ≡ d = same_Some _ _ (sym (h.sent k o there) ∙ is) in
+        let same : w.0 ≡ issue_of o = same_Some _ _ (sym w.1 ∙ h.sent k o there) in
         let to' : names o.set m ≡ true = subst (λ x. names x.set m ≡ true) same w.2 in
         let f = fixed_by_settled b k m o s there to' (subst (λ p. is_settled p ≡ true) (phase_here a b k m o h there to') ahead) in
         agree_past (o.phase q) (stage_of a k q) (subst (λ p. Agree p (stage_of a k q)) (at (Some o) there) (h.agree k q)) ((s.command k o there).gathered f.0 q f.1 (subst (λ x. names x.set q ≡ true) (sym own) to))
@@ -127,14 +126,14 @@ stands_open a b m j t s h at out = by_sent (a.sent_as j) refl (h.agree j m)
     found o there to Settled e g =
         let f = fixed_by_settled b j m o s there to (ap is_settled e) in
         let v : f.0 ≡ greatest_answer a j = h.final j f.0 o there f.1 in
-        let w : greatest_answer a j ≡ t = some_inj (subst (λ x. cond x (Some (greatest_answer a j)) (a.heard_at j m) ≡ Some t) g.2 at) in
+        let w : greatest_answer a j ≡ t = same_Some _ _ (subst (λ x. cond x (Some (greatest_answer a j)) (a.heard_at j m) ≡ Some t) g.2 at) in
         record { o = o; there = there; to = to; stands = ap (stands_by o.fixed) e ∙ (f.1 ∙ ap Some (v ∙ w)) }
     found o there to Run e g = absurd (false≢true (sym out ∙ g.3))
 
     by_table : (d : Issue) → a.sent_as j ≡ Some d → names d.set m ≡ true → (e : Option OpenCommand) → b.table j ≡ e → Agree (phase_at e m) (stage_of a j m) → OpenThere b m j t
     by_table d is to None there g = absurd (false≢true (sym out ∙ g.3))
     by_table d is to (Some o) there g =
-        let own : d ≡ issue_of o = some_inj (sym is ∙ h.sent j o there) in
+        let own : d ≡ issue_of o = same_Some _ _ (sym is ∙ h.sent j o there) in
         found o there (subst (λ x. names x.set m ≡ true) own to) (o.phase m) refl g
 
     by_name : (d : Issue) → a.sent_as j ≡ Some d → (x : Bool) → names d.set m ≡ x → Agree (cond x (phase_at (b.table j) m) Sent) (stage_of a j m) → OpenThere b m j t

@@ -20,6 +20,8 @@ fn member_of(call: Call) -> u8
     }
 }
 
+// That there is one station for each member is said of the slices here; the types of each kind carry it.
+
 /// A fresh station for each member.
 pub(crate) fn fresh_stations<M: Machine>() -> [Station<M>; MEMBERS]
     ensures each { OneEach result }

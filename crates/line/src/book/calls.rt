@@ -109,6 +109,7 @@ impl Book {
         let command = open.command;
         let fixed = open.fixed;
         let phase = next_phase(open.phase(member), Step::Settle(fixed))?;
+        // Whether it is fixed is for next_phase to refuse: one match on phase and step is a wanted form.
         let timestamp = fixed.unwrap();
         let tables = &mut self.tables;
         tables.put_phase(place, member, phase);

@@ -11,6 +11,7 @@ use ordering::calls::{Answer, Call, Refusal};
 
 impl<M: Machine> Line<M> {
     /// Makes the call; a run is for the station given, which no other call touches.
+    // In a function of its own: what the call does is proved here by cases, and where it leads above, at once.
     fn make(&mut self, call: Call, station: &mut Station<M>) -> Result<Answer, Refusal>
         ensures steps { Asked M.kind (view_line self.old.book) (call_at call station.old.member) (M.cells station.old.machine) result (view_line self.new.book) (M.cells station.new.machine) }
         ensures stays { station.new.member ≡ station.old.member }

@@ -16,6 +16,7 @@ use machine::kind::Machine;
 use ordering::calls::Refusal;
 use std::marker::PhantomData;
 
+// Each call borrows the open line by itself: a function that lends it would have to promise what its loan leaves.
 impl<M: Machine> Line<M> {
     /// A closed line.
     pub fn new() -> Line<M>

@@ -1,9 +1,9 @@
+use Rattle.std.proofs.lemmas.Option.{same_Some}
 use Rattle.std.proofs.Common.{◌<◌, Some, None, Err, arith, sym, refl, ap, ◌∙◌, subst}
 use Rattle.std.proofs.lemmas.Result.{err_from_is_err_and}
 use Rattle.line.specs.Tables.{view_tables}
 use Rattle.line.proofs.BookRun.{best_of, none_found, place_used, run_none, run_fits, run_answer_lem}
 use Rattle.line.proofs.OneProof.{carried}
-use Rattle.ordering.proofs.Basics.{some_inj}
 use Rattle.ordering.specs.Steps.{run}
 use Rattle.line.proofs.book.Book.run.Goals as goal
 
@@ -47,7 +47,7 @@ invariant_of-self g c =
     let inside : c.from-member.result < b.members = subst (λ n. n < b.members) (sym c.from-member.ensures) c.if-member-self.false in
     let best = best_of g.M.Machine.kind b (carried b c.args.self.now.good) c.from-member.result inside c.as_slice.result.now c.earliest_ready.result (Some c.in_ok-earliest.earliest) c.as_slice.ensures c.in_ok-earliest.ensures.ok_part c.earliest_ready.ensures in
     let put = c.put_phase.ensures best.0 best.1 in
-    record { good = ∣ (run_answer_lem g.M.Machine.kind b (carried b c.args.self.now.good) c.from-member.result inside c.in_ok-earliest.earliest best c.put_phase.new.self c.release.new.self _ c.args.member put c.release.ensures (ap (λ p. p.command) (some_inj (sym c.at.ensures ∙ best.1))) c.from-member.ensures).1 ∣₁ }
+    record { good = ∣ (run_answer_lem g.M.Machine.kind b (carried b c.args.self.now.good) c.from-member.result inside c.in_ok-earliest.earliest best c.put_phase.new.self c.release.new.self _ c.args.member put c.release.ensures (ap (λ p. p.command) (same_Some _ _ (sym c.at.ensures ∙ best.1))) c.from-member.ensures).1 ∣₁ }
 
 pub returns : goal.returns
 returns g c =
@@ -55,4 +55,4 @@ returns g c =
     let inside : c.from-member.result < b.members = subst (λ n. n < b.members) (sym c.from-member.ensures) c.if-member-self.false in
     let best = best_of g.M.Machine.kind b (carried b c.args.self.now.good) c.from-member.result inside c.as_slice.result.now c.earliest_ready.result (Some c.in_ok-earliest.earliest) c.as_slice.ensures c.in_ok-earliest.ensures.ok_part c.earliest_ready.ensures in
     let put = c.put_phase.ensures best.0 best.1 in
-    (run_answer_lem g.M.Machine.kind b (carried b c.args.self.now.good) c.from-member.result inside c.in_ok-earliest.earliest best c.put_phase.new.self c.release.new.self _ c.args.member put c.release.ensures (ap (λ p. p.command) (some_inj (sym c.at.ensures ∙ best.1))) c.from-member.ensures).0
+    (run_answer_lem g.M.Machine.kind b (carried b c.args.self.now.good) c.from-member.result inside c.in_ok-earliest.earliest best c.put_phase.new.self c.release.new.self _ c.args.member put c.release.ensures (ap (λ p. p.command) (same_Some _ _ (sym c.at.ensures ∙ best.1))) c.from-member.ensures).0
