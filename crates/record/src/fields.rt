@@ -28,7 +28,7 @@ fn plain_length(bytes: &[u8]) -> usize
     ensures is { result ≡ prefix_len textdata bytes.now }
     ensures within { result ≤ length bytes.now }
 {
-    // The chain of `take_while` and `count` takes two instructions a byte more.
+    // Cutting may take no more instructions a byte: `position` and `take_while` with `count` were tried, and take two more.
     for (i, b) in bytes.iter().enumerate() {
         if !is_text(*b) {
             return i;
@@ -146,10 +146,8 @@ impl<'a> Rest<'a> {
         ensures { seen result ≡ quoted_field self.entry.bytes.now at (inside self.entry.bytes.now) }
     {
         let (text, closing) = self.split_at(quoted_length(self.bytes));
-        match closing.behind_quote() {
-            Some(behind) => behind.close(Field { text, at }),
-            None => Err(TextFault { at }),
-        }
+        let behind = closing.behind_quote().ok_or(TextFault { at })?;
+        behind.close(Field { text, at })
     }
 
     /// The field that stands first.

@@ -12,6 +12,7 @@ use crate::{Cut, Field, FieldEnd, TextFault};
 fn store<'a>(fields: &mut [Field<'a>], place: usize, field: Field<'a>)
     ensures { fields.new ≡ (if nat_lt place (length fields.old) then slice_set fields.old place field.entry else fields.old) }
 {
+    // An index, since what a slice's `get_mut` lends leaves nothing known of the elements.
     if place < fields.len() {
         fields[place] = field;
     }
