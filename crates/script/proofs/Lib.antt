@@ -1,6 +1,6 @@
 mod Complete
 mod Cutting
-mod Digits
+pub mod Digits
 mod Meaning
 pub mod Means
 mod Numerals

@@ -1,6 +1,6 @@
 -- A numeral is what `decimal` writes.
 use Rattle.std.proofs.lemmas.Option.{none-some}
-use Rattle.std.proofs.Common.{◌≡◌, ℕ, ◌^◌, ◌<◌, ◌≤◌, Bool, true, false, cond, ◌&&◌, List, length, get_or, Some, None, decimal, sym, refl, ap, ◌∙◌, subst, ⊎_elim, arith, rules}
+use Rattle.std.proofs.Common.{◌≡◌, ℕ, ◌^◌, ◌<◌, ◌≤◌, Bool, true, false, cond, ◌&&◌, List, length, get_or, Some, None, Option, decimal, sym, refl, ap, ◌∙◌, subst, ⊎_elim, arith, rules}
 use Rattle.std.specs.Str.{all_ascii_digits}
 use Rattle.std.proofs.lemmas.Fmt.{digits_decimal, digits_value-decimal, length-decimal-le, decimal_nonempty, first_decimal, decimal_digit, decimal-digits_value}
 use Rattle.std.proofs.lemmas.Str.Parse.{IsNumeralModel, numerals_by_fold, tells_all_ascii_digits, digits_value_short}
@@ -60,3 +60,6 @@ only bs n e = go (shaped bs) (all_ascii_digits bs) refl refl e
 
 pub reads_numeral : (bs : List ℕ) → Reads bs (numeral bs)
 reads_numeral bs = record { found = λ n small e. ap numeral e ∙ found n small; only = only bs }
+
+pub reads_as : (bs : List ℕ) (r : Option ℕ) → r ≡ numeral bs → Reads bs r
+reads_as bs r e = subst (Reads bs) (sym e) (reads_numeral bs)

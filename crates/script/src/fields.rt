@@ -11,6 +11,7 @@ use record::Field;
 
 /// What the number in a field may stand for.
 // `TryFrom<u64>` says what it gives as a relation, which each caller would have to work out.
+// The impls for `u8`, `u16` and `u32` stand one by one, as no macro of this repository may write an impl.
 pub(crate) trait FromNumber: Copy {
     ghost from_number: { ℕ → Option Self };
 
@@ -82,6 +83,7 @@ impl FromNumber for CommandKind {
 pub(crate) fn number_as<N: FromNumber>(field: Field<'_>) -> Result<N, StepFault>
     ensures { result ≡ number_as N.from_number (piece_of field.entry) }
 {
+    // A closure, since the borrow checker does not cover the bare `N::from_number`, whose result its arguments do not name.
     number(field.text)
         .and_then(|n| N::from_number(n))
         .ok_or(StepFault {

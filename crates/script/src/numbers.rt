@@ -4,10 +4,12 @@ ghost use Rattle.script.specs.Numbers.{Reads, numeral, read_digits, shaped};
 ghost use Rattle.std.specs.Str.{all_ascii_digits};
 
 /// The number that the digits write, or none where another byte is among them.
+#[tactic(auto, using(crate::proofs::Digits::reading_room))]
 fn read_digits(text: &[u8]) -> Option<u64>
     requires { length text.now ≤ 15 }
     ensures { result ≡ (if all_ascii_digits text.now then Some (read_digits 0 text.now) else None) }
 {
+    // A loop: `try_fold` was tried, and the proof that no turn of its closure overflows did not close.
     let mut number = 0;
     for b in text {
         if !b.is_ascii_digit() {

@@ -32,9 +32,11 @@ fn step_of(fields: [Field<'_>; FIELDS]) -> Result<Step, StepFault>
     )
 }
 
-/// Cuts the record at an offset and reads its step.
-fn step_at(script: &[u8], start: usize) -> Result<StepRead, StepFault>
+/// Reads the step whose record begins at an offset of the script: the one that the record's fields write.
+#[tactic(auto, using(crate::proofs::Means::means))]
+pub fn read_step(script: &[u8], start: usize) -> Result<StepRead, StepFault>
     ensures answers { result ≡ step_at (drop start script.now) start }
+    ensures means { Means (cut_record (drop start script.now) start) result }
     ensures ends { Ends start (drop start script.now) result }
 {
     let mut fields = [Field {
@@ -53,14 +55,4 @@ fn step_at(script: &[u8], start: usize) -> Result<StepRead, StepFault>
         step,
         next: cut.next,
     })
-}
-
-/// Reads the step whose record begins at an offset of the script: the one that the record's fields write.
-#[tactic(auto, using(crate::proofs::Means::means))]
-pub fn read_step(script: &[u8], start: usize) -> Result<StepRead, StepFault>
-    ensures answers { result ≡ step_at (drop start script.now) start }
-    ensures means { Means (cut_record (drop start script.now) start) result }
-    ensures ends { Ends start (drop start script.now) result }
-{
-    step_at(script, start)
 }
