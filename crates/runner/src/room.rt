@@ -5,10 +5,7 @@ ghost use Rattle.runner.specs.Writing.{room_of};
 ghost use Rattle.script.specs.declared.faults.Cause.TheVariants.{TraceFull};
 
 use script::faults::{Cause, Fault};
-use trace::Trace;
-
-/// The room that one record of the trace may need.
-const RECORD_ROOM: usize = 48;
+use trace::{RECORD_ROOM, Trace};
 
 /// A fault in the record of this number, which begins at an offset, unless there is room for one more in the trace.
 pub(crate) fn room_for_record(trace: &Trace<'_>, number: usize, at: usize) -> Result<(), Fault>

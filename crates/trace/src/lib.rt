@@ -4,7 +4,7 @@
 mod records;
 mod writing;
 
-pub use records::{FaultRecord, fault_record};
+pub use records::{FaultRecord, RECORD_ROOM, fault_record};
 
 /// Records written into a caller's bytes, one behind the other.
 // The bytes are lent, and an `ArrayVec` would own its own.

@@ -8,11 +8,14 @@ use crate::Trace;
 use ordering::calls::{Answer, Call, Refusal};
 use script::faults::Fault;
 
+/// The room that one record of a trace may need.
+pub const RECORD_ROOM: usize = 48;
+
 /// The bytes of the record of a fault, with zeros behind them.
 // The zeros are promised too, and an `ArrayVec` shows nothing behind its elements.
 #[derive(Clone, Copy)]
 pub struct FaultRecord {
-    pub bytes: [u8; 48],
+    pub bytes: [u8; RECORD_ROOM],
     pub used: usize,
 }
 
@@ -20,10 +23,7 @@ pub struct FaultRecord {
 fn verdict(answer: Result<Answer, Refusal>) -> u8
     ensures { result ≡ verdict answer }
 {
-    match answer {
-        Ok(_) => 0,
-        Err(refusal) => refusal.number(),
-    }
+    answer.err().map_or(0, Refusal::number)
 }
 
 /// The issue number that the record of a step shows.
@@ -96,7 +96,7 @@ pub fn fault_record(fault: Fault) -> FaultRecord
     ensures used { result.used ≡ length (fault_record fault) }
     ensures within { result.used ≤ 48 }
 {
-    let mut bytes = [0; 48];
+    let mut bytes = [0; RECORD_ROOM];
     let mut trace = Trace {
         bytes: &mut bytes,
         used: 0,

@@ -26,6 +26,7 @@ impl<'a> Trace<'a> {
     fn byte(&mut self, b: u8)
         ensures { Adds self.old (b ∷ []) self.new }
     {
+        // An index, since what a slice's `get_mut` lends leaves nothing known of the elements.
         if !self.is_full() {
             self.bytes[self.used] = b;
             self.used += 1;
