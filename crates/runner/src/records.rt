@@ -14,6 +14,7 @@ pub(crate) struct Record {
 }
 
 /// The records of a script that are left. Behind one that cannot be read none is.
+// The number is counted here and not by `zip` at a caller, since the ghost field `counted` bounds it by the offset.
 #[derive(Drop)]
 pub(crate) struct Records<'a> {
     script: Script<'a>,
