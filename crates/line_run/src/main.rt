@@ -34,7 +34,7 @@ fn read_input(rt: &HostRuntime, bytes: &mut [u8]) -> io::Result<usize>
     ensures { IfOk result (λ n. n ≤ length bytes.old) }
 {
     let mut input = rt.stdin();
-    // `read_exact` would refuse a shorter script, and `read_to_end` would not stop at a longer one.
+    // `read_exact` refuses a shorter script, and `take` with `read_to_end` wants a `Vec`: the buffers are arrays, with no heap.
     let mut filled = 0;
     while filled < bytes.len() {
         let count = input.read(&mut bytes[filled..])?;
