@@ -134,6 +134,7 @@ impl<M: Machine> Traffic<M> {
         for together in passages.chunks(member.burst) {
             for passage in together.iter().rev() {
                 line.settle(runner, passage.number).map_err(Refused::from)?;
+                // A bound in place of a `while let`, since a loop must be proved to end: no more run than were sent.
                 for _ in 0..passages.len() {
                     let Some(pair) = run_earliest(line, &mut member.station)? else {
                         break;

@@ -24,6 +24,7 @@ fn fixed_kind(read: Result<StepRead, StepFault>) -> Option<MachineKind>
 pub(crate) fn kind_of(script: Script<'_>) -> MachineKind
     ensures { result ≡ kind_of_script script.entry.bytes.now }
 {
+    // A for loop: find_map was tried, and the proof of one goal did not close.
     for record in Records::of(script) {
         if let Some(kind) = fixed_kind(record.read) {
             return kind;
