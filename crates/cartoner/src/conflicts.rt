@@ -28,6 +28,7 @@ fn pairs_in_conflict<M: Machine>(commands: &[Command], others: &[Command]) -> us
 pub(crate) fn neighbours_in_conflict<M: Machine>(commands: &[Command]) -> usize
     ensures { result ≡ neighbours M.kind.conflict commands.now }
 {
+    // A match: with map_or the proof did not close.
     match commands.split_first() {
         Some((_, others)) => pairs_in_conflict::<M>(commands, others),
         None => 0,

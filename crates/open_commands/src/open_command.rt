@@ -61,11 +61,8 @@ impl OpenCommand {
     fn phase_at(&self, member: usize) -> Option<Phase>
         ensures { result ≡ (if names self.now.address.set member then Some (phase_in self.now.destinations member) else None) }
     {
-        if self.address.names(member) {
-            Some(self.phase(member))
-        } else {
-            None
-        }
+        let is_named = self.address.names(member);
+        is_named.then(|| self.phase(member))
     }
 
     /// The member's proposal once it is gathered, and 0 where it is no destination.

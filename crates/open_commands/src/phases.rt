@@ -16,6 +16,7 @@ pub enum Step {
 pub fn next_phase(phase: Phase, step: Step) -> Result<Phase, Refusal>
     ensures { result ≡ next_phase phase step }
 {
+    // One match on phase and step: this form is a wanted one (docs/DECISIONS.md).
     match (phase, step) {
         (Phase::Sent, Step::Hear(proposal)) => Ok(Phase::Heard(proposal)),
         (Phase::Heard(proposal), Step::Gather) => Ok(Phase::Gathered(proposal)),

@@ -76,6 +76,7 @@ fn better<M: Machine>(
 fn earliest_at<M: Machine>(commands: &[OpenCommand], member: usize) -> Option<Candidate>
     ensures { BestTo M.kind member commands.now (length commands.now) result }
 {
+    // A for loop: a fold would hand the same values on through a closure.
     let mut best = None;
     for (place, command) in commands.iter().enumerate() {
         best = better::<M>(commands, member, place, command, best);

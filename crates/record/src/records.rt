@@ -27,7 +27,7 @@ fn first_record<'a>(script: Rest<'a>, fields: &mut [Field<'a>]) -> Result<Cut, T
 {
     let mut left = script;
 
-    // Counts past the places too, so it is no index over them.
+    // Counts past the places too, so it is no index over them; and a loop, as a field's end says whether to go on.
     let mut count = 0;
     loop {
         let cut = left.first_field()?;
@@ -50,6 +50,7 @@ fn first_record<'a>(script: Rest<'a>, fields: &mut [Field<'a>]) -> Result<Cut, T
 }
 
 /// Cuts one record off the script, from an offset on, and puts its fields where there is room for them.
+// The places are lent, since nothing here has a heap.
 pub fn cut_record<'a>(
     script: &'a [u8],
     start: usize,

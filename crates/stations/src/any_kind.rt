@@ -20,7 +20,8 @@ fn member_of(call: Call) -> u8
     }
 }
 
-// That there is one station for each member is said of the slices here; the types of each kind carry it.
+// That there is one station for each member is said of the slices here: the type of a kind carries it, and a slice of any
+// kind has no such type.
 
 /// A fresh station for each member.
 pub(crate) fn fresh_stations<M: Machine>() -> [Station<M>; MEMBERS]
