@@ -19,6 +19,13 @@ pub trait Machine: Sized {
     /// What a machine of this kind holds.
     ghost cells: { Self → List ℕ };
 
+    /// The constant `CELLS`, tied to the kind.
+    fn count() -> usize
+        ensures { result ≡ kind.count }
+    {
+        Self::CELLS
+    }
+
     /// A machine at the starting cells.
     fn start() -> Self
         ensures { cells result ≡ kind.starting };
