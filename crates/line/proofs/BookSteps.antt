@@ -28,10 +28,10 @@ use Rattle.ordering.specs.Steps.{Outcome, reach, hear, hear_at, hear_in as hear_
 -- A call for a member and a number that has reached its place.
 pub record At (b : Tables) (m k i : ℕ) : Type 0 where
   pub p : Place
-  pub at : slice_get b.commands i ≡ Some p
+  pub at : slice_get b.commands.0 i ≡ Some p
   pub number : p.number ≡ k
   pub reached : reach (view_tables b) m k ≡ Ok (view_open p)
-  pub below : i < length b.commands
+  pub below : i < length b.commands.0
   pub member : m < b.members
 
 pub at_of : (b : Tables) (m k i : ℕ) → Reaches b m k (Ok i) → At b m k i
@@ -40,7 +40,7 @@ at_of b m k i r =
 
 module _ (b : Tables) (g : Good b) (m k i : ℕ) (r : At b m k i) where
   -- What was read at the place.
-  pub read : (x : Place) → slice_get b.commands i ≡ Some x → x ≡ r.p
+  pub read : (x : Place) → slice_get b.commands.0 i ≡ Some x → x ≡ r.p
   read x e = same_Some _ _ (sym e ∙ r.at)
 
   pub inside : m < 16
@@ -56,9 +56,9 @@ module _ (b : Tables) (g : Good b) (m k i : ℕ) (r : At b m k i) where
   seat_known = g.sound.known m
 
   -- One phase moved on at the place: what the model sees of the table, and that the tables fit.
-  moved_view : (x : Phase) (q : Place) → q.number ≡ r.p.number → (j : ℕ) → view_table ((with_place b i q).commands) j ≡ put k (Some (view_open q)) (view_table b.commands) j
+  moved_view : (x : Phase) (q : Place) → q.number ≡ r.p.number → (j : ℕ) → view_table ((with_place b i q).commands.0) j ≡ put k (Some (view_open q)) (view_table b.commands.0) j
   moved_view x q same j =
-      subst (λ n. view_table ((with_place b i q).commands) j ≡ put n (Some (view_open q)) (view_table b.commands) j) r.number (view_place b g.fits i r.p q r.below r.at same j)
+      subst (λ n. view_table ((with_place b i q).commands.0) j ≡ put n (Some (view_open q)) (view_table b.commands.0) j) r.number (view_place b g.fits i r.p q r.below r.at same j)
 
   pub phase_view : (x : Phase) → view_open (with_phase_in r.p m x) ≡ with_phase (view_open r.p) m x
   phase_view x = view_phase r.p m x (let w : length r.p.destinations ≡ 16 = wide in let v = inside in omega arith)
@@ -71,7 +71,7 @@ module _ (b : Tables) (g : Good b) (m k i : ℕ) (r : At b m k i) where
   pub after_seat : (x : Phase) (s : Seat) (t : Member) → view_member s ≡ t → view_tables (with_seat (with_place b i (with_phase_in r.p m x)) m s) ≡ with_member (with_command (view_tables b) k (Some (with_phase (view_open r.p) m x))) m t
   after_seat x s t e =
       book_path (view_tables (with_seat (with_place b i (with_phase_in r.p m x)) m s)) (with_member (with_command (view_tables b) k (Some (with_phase (view_open r.p) m x))) m t) refl refl refl
-      (λ j. moved_view x (with_phase_in r.p m x) refl j ∙ ap (λ o. put k (Some o) (view_table b.commands) j) (phase_view x))
+      (λ j. moved_view x (with_phase_in r.p m x) refl j ∙ ap (λ o. put k (Some o) (view_table b.commands.0) j) (phase_view x))
       (λ q. view_seat (with_place b i (with_phase_in r.p m x)) (phase_fits x) m s inside q ∙ ap (λ y. put m y (λ j. view_member (get_or b.roll j new_seat)) q) e)
 
   pub fits_both : (x : Phase) (s : Seat) → SeatFits s → Fits (with_seat (with_place b i (with_phase_in r.p m x)) m s)
@@ -101,7 +101,7 @@ module _ (b : Tables) (g : Good b) (m k i : ℕ) (r : At b m k i) where
   hears : (K : Kind) (x : Phase) (t : ℕ) → next_phase (phase_in r.p.destinations m) (Hear t) ≡ Ok x → t ≡ proposal_in K (get_or b.roll m new_seat) r.p.command → Hears b.issued (get_or b.roll m new_seat) seat_fits seat_known K k r.p.command t
   hears K x t h is = hear_seat b.issued (get_or b.roll m new_seat) seat_fits seat_known K k r.p.command t is (new_there x t h)
 
-  pub hear_room : (K : Kind) (x : Phase) (t : ℕ) → next_phase (phase_in r.p.destinations m) (Hear t) ≡ Ok x → t ≡ proposal_in K (get_or b.roll m new_seat) r.p.command → length (lift_in (get_or b.roll m new_seat) t).remembered < 16
+  pub hear_room : (K : Kind) (x : Phase) (t : ℕ) → next_phase (phase_in r.p.destinations m) (Hear t) ≡ Ok x → t ≡ proposal_in K (get_or b.roll m new_seat) r.p.command → length (lift_in (get_or b.roll m new_seat) t).remembered.0 < 16
   hear_room K x t h is = (hears K x t h is).room
 
   pub hear_done : (K : Kind) (x : Phase) (t : ℕ) → next_phase (phase_in r.p.destinations m) (Hear t) ≡ Ok x → t ≡ proposal_in K (get_or b.roll m new_seat) r.p.command → Done (hear K (view_tables b) m k) t (with_seat (with_place b i (with_phase_in r.p m x)) m (hear_in (get_or b.roll m new_seat) k r.p.command t))

@@ -21,7 +21,7 @@ use Rattle.ordering.specs.Steps.{Outcome, hear, gather, settle, final_of}
 
 module _ (b : Tables) (g : Good b) (m k i : ℕ) (r : At b m k i) where
   -- The step that was matched, at the phase that was read.
-  pub matched : (y : Place) (n : ℕ) (p : Phase) (s s' : Step) (x : Outcome Phase) → slice_get b.commands i ≡ Some y → n ≡ m → p ≡ phase_in y.destinations n → s ≡ s' → x ≡ next_phase p s → next_phase (phase_in r.p.destinations m) s' ≡ x
+  pub matched : (y : Place) (n : ℕ) (p : Phase) (s s' : Step) (x : Outcome Phase) → slice_get b.commands.0 i ≡ Some y → n ≡ m → p ≡ phase_in y.destinations n → s ≡ s' → x ≡ next_phase p s → next_phase (phase_in r.p.destinations m) s' ≡ x
   matched y n p s s' x e w is step says =
       sym (says ∙ (ap (λ z. next_phase z s) (is ∙ (ap (λ z. phase_in z.destinations n) (read b g m k i r y e) ∙ ap (phase_in r.p.destinations) w)) ∙ ap (next_phase (phase_in r.p.destinations m)) step))
 
@@ -48,9 +48,9 @@ module _ (b : Tables) (g : Good b) (m k i : ℕ) (r : At b m k i) where
   proposed : (K : Kind) (n t : ℕ) (d : Seat) (c : Command) → n ≡ m → c ≡ r.p.command → t ≡ proposal_in K (get_or b.roll n d) c → t ≡ proposal_in K (get_or b.roll m new_seat) r.p.command
   proposed K n t d c e f is = is ∙ (ap (λ z. proposal_in K z c) (seat_read n d e) ∙ ap (proposal_in K (get_or b.roll m new_seat)) f)
 
-  pub hear_fits : (K : Kind) (x : Phase) (n t : ℕ) (d d1 : Seat) (c : Command) (b1 : Tables) → n ≡ m → c ≡ r.p.command → t ≡ proposal_in K (get_or b.roll n d) c → next_phase (phase_in r.p.destinations m) (Hear t) ≡ Ok x → b1 ≡ with_place b i (with_phase_in r.p n x) → length (lift_in (get_or b1.roll n d1) t).remembered < 16
+  pub hear_fits : (K : Kind) (x : Phase) (n t : ℕ) (d d1 : Seat) (c : Command) (b1 : Tables) → n ≡ m → c ≡ r.p.command → t ≡ proposal_in K (get_or b.roll n d) c → next_phase (phase_in r.p.destinations m) (Hear t) ≡ Ok x → b1 ≡ with_place b i (with_phase_in r.p n x) → length (lift_in (get_or b1.roll n d1) t).remembered.0 < 16
   hear_fits K x n t d d1 c b1 e f is h w =
-      subst (λ z. length (lift_in z t).remembered < 16) (sym (seat_after x n d1 b1 e w)) (hear_room b g m k i r K x t h (proposed K n t d c e f is))
+      subst (λ z. length (lift_in z t).remembered.0 < 16) (sym (seat_after x n d1 b1 e w)) (hear_room b g m k i r K x t h (proposed K n t d c e f is))
 
   pub hear_answer_lem : (K : Kind) (x : Phase) (n t : ℕ) (d d1 : Seat) (c : Command) (b1 : Tables) (s : Seat) → n ≡ m → c ≡ r.p.command → t ≡ proposal_in K (get_or b.roll n d) c → next_phase (phase_in r.p.destinations m) (Hear t) ≡ Ok x → b1 ≡ with_place b i (with_phase_in r.p n x) → s ≡ hear_in (get_or b1.roll n d1) k c t → Done (hear K (view_tables b) m k) t (with_seat b1 n s)
   hear_answer_lem K x n t d d1 c b1 s e f is h w v =
@@ -63,10 +63,10 @@ module _ (b : Tables) (g : Good b) (m k i : ℕ) (r : At b m k i) where
       written = ap (λ z. with_seat z n s) w ∙ (ap (λ z. with_seat (with_place b i (with_phase_in r.p z x)) z s) e ∙ ap (with_seat (with_place b i (with_phase_in r.p m x)) m) seat)
 
   -- The place is there after a write.
-  pub below_after : (q : Place) (b1 : Tables) → b1 ≡ with_place b i q → i < length b1.commands
-  below_after q b1 w = subst (λ z. i < length z.commands) (sym w) (let u = length-set b.commands i q in let v : i < length b.commands = r.below in omega arith)
+  pub below_after : (q : Place) (b1 : Tables) → b1 ≡ with_place b i q → i < length b1.commands.0
+  below_after q b1 w = subst (λ z. i < length z.commands.0) (sym w) (let u = length-set b.commands.0 i q in let v : i < length b.commands.0 = r.below in omega arith)
 
-  pub gather_answer_lem : (x : Phase) (n : ℕ) (v : Option ℕ) (b1 b2 : Tables) → n ≡ m → next_phase (phase_in r.p.destinations m) Gather ≡ Ok x → b1 ≡ with_place b i (with_phase_in r.p n x) → ((p : Place) → slice_get b1.commands i ≡ Some p → (v ≡ final_of (view_open p)) × (b2 ≡ with_place b1 i (with_fixed_in p (final_of (view_open p))))) → Done (gather (view_tables b) m k) v b2
+  pub gather_answer_lem : (x : Phase) (n : ℕ) (v : Option ℕ) (b1 b2 : Tables) → n ≡ m → next_phase (phase_in r.p.destinations m) Gather ≡ Ok x → b1 ≡ with_place b i (with_phase_in r.p n x) → ((p : Place) → slice_get b1.commands.0 i ≡ Some p → (v ≡ final_of (view_open p)) × (b2 ≡ with_place b1 i (with_fixed_in p (final_of (view_open p))))) → Done (gather (view_tables b) m k) v b2
   gather_answer_lem x n v b1 b2 e h w f =
       subst (λ y. Done (gather (view_tables b) m k) y b2) (sym fixes.0) (subst (Done (gather (view_tables b) m k) ((final_of (view_open q)))) (sym written) (gather_done b g m k i r x h))
     where
@@ -76,15 +76,15 @@ module _ (b : Tables) (g : Good b) (m k i : ℕ) (r : At b m k i) where
       first : b1 ≡ with_place b i q
       first = w ∙ ap (λ z. with_place b i (with_phase_in r.p z x)) e
 
-      there : slice_get b1.commands i ≡ Some q
-      there = ap (λ z. slice_get z.commands i) first ∙ slice_get-set_same b.commands i r.p q (r.at)
+      there : slice_get b1.commands.0 i ≡ Some q
+      there = ap (λ z. slice_get z.commands.0 i) first ∙ slice_get-set_same b.commands.0 i r.p q (r.at)
 
       fixes : (v ≡ final_of (view_open q)) × (b2 ≡ with_place b1 i (with_fixed_in q (final_of (view_open q))))
       fixes = f q there
 
       written : b2 ≡ with_place b i (with_fixed_in q (final_of (view_open q)))
       written =
-          fixes.1 ∙ (ap (λ z. with_place z i (with_fixed_in q (final_of (view_open q)))) first ∙ ap (λ cs. record { members = b.members; last = b.last; issued = b.issued; commands = cs; roll = b.roll }) (set_twice b.commands i q (with_fixed_in q (final_of (view_open q)))))
+          fixes.1 ∙ (ap (λ z. with_place z i (with_fixed_in q (final_of (view_open q)))) first ∙ ap (λ cs. record { members = b.members; last = b.last; issued = b.issued; commands = (cs, b.commands.1); roll = b.roll }) (set_twice b.commands.0 i q (with_fixed_in q (final_of (view_open q)))))
 
   pub settle_answer_lem : (x : Phase) (n f : ℕ) (d1 d2 : Seat) (c : Command) (fixed : Option ℕ) (b1 : Tables) (s : Seat) (t : ℕ) → n ≡ m → c ≡ r.p.command → fixed ≡ r.p.fixed → fixed ≡ Some f → next_phase (phase_in r.p.destinations m) (Settle r.p.fixed) ≡ Ok x → b1 ≡ with_place b i (with_phase_in r.p n x) → s ≡ settle_in (get_or b1.roll n d1) k c f → t ≡ (get_or (set b1.roll n s) n d2).clock → Done (settle (view_tables b) m k) t (with_seat b1 n s)
   settle_answer_lem x n f d1 d2 c fixed b1 s t e is v v' h w u a =

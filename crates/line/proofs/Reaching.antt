@@ -19,7 +19,7 @@ placed ps qs k i r p same is found read =
     let f = subst (FoundAt ps k) is found in
     subst (λ l. (i < length l) × (lookup_by number_of l k ≡ slice_get l i) × (slice_get l i ≡ Some p)) same (f.0, f.1, slice_get_read ps (length ps) i p refl f.0 read)
 
-pub reach_at : (b : Tables) (m k i : ℕ) (p : Place) (t : Bool) → m < b.members → lookup_by number_of b.commands k ≡ slice_get b.commands i → slice_get b.commands i ≡ Some p → names p.address.set m ≡ t → reach (view_tables b) m k ≡ demand t NoDestination (Ok (view_open p))
+pub reach_at : (b : Tables) (m k i : ℕ) (p : Place) (t : Bool) → m < b.members → lookup_by number_of b.commands.0 k ≡ slice_get b.commands.0 i → slice_get b.commands.0 i ≡ Some p → names p.address.set m ≡ t → reach (view_tables b) m k ≡ demand t NoDestination (Ok (view_open p))
 reach_at b m k i p t inside found at to =
     ap (λ x. demand x NoMember (destined m ((view_tables b).table k))) (lt-ltb m b.members inside) ∙ (ap (λ x. destined m (mapped view_open x)) (found ∙ at) ∙ ap (λ x. cond x (Ok (view_open p)) (Err NoDestination)) to)
 

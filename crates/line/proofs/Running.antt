@@ -20,37 +20,37 @@ use Rattle.ordering.specs.Searches.{Pair, earliest_below}
 use Rattle.ordering.specs.Steps.{passes, unhindered, ready_at, ready_if, settled_as}
 
 module _ (K : Kind) (b : Tables) (g : Good b) (m : ℕ) where
-  found : (i : ℕ) (o : Place) → slice_get b.commands i ≡ Some o → lookup_by number_of b.commands o.number ≡ Some o
-  found i o at = lookup_own number_of b.commands i o g.fits.distinct at
+  found : (i : ℕ) (o : Place) → slice_get b.commands.0 i ≡ Some o → lookup_by number_of b.commands.0 o.number ≡ Some o
+  found i o at = lookup_own number_of b.commands.0 i o g.fits.distinct at
 
-  pub numbered : (i : ℕ) (o : Place) → slice_get b.commands i ≡ Some o → o.number ≤ b.issued
+  pub numbered : (i : ℕ) (o : Place) → slice_get b.commands.0 i ≡ Some o → o.number ≤ b.issued
   numbered i o at = (g.sound.numbered o.number (view_open o) (ap (mapped view_open) (found i o at))).1
 
-  pass_view : (p : Pair) (c : Command) → unhindered K (view_tables b) m p c ≡ all_pass K m p c b.commands
+  pass_view : (p : Pair) (c : Command) → unhindered K (view_tables b) m p c ≡ all_pass K m p c b.commands.0
   pass_view p c = same_tests _ _ there back
     where
-      there : unhindered K (view_tables b) m p c ≡ true → all_pass K m p c b.commands ≡ true
+      there : unhindered K (view_tables b) m p c ≡ true → all_pass K m p c b.commands.0 ≡ true
       there h =
-          all_of_lem (λ o. passes K m p c o.number (Some (view_open o))) b.commands (length b.commands) (omega arith) (λ i o l at. subst (λ x. passes K m p c o.number x ≡ true) (ap (mapped view_open) (found i o at)) (all_each (suc b.issued) (λ j. passes K m p c j ((view_tables b).table j)) h o.number (let w = numbered i o at in omega arith)))
+          all_of_lem (λ o. passes K m p c o.number (Some (view_open o))) b.commands.0 (length b.commands.0) (omega arith) (λ i o l at. subst (λ x. passes K m p c o.number x ≡ true) (ap (mapped view_open) (found i o at)) (all_each (suc b.issued) (λ j. passes K m p c j ((view_tables b).table j)) h o.number (let w = numbered i o at in omega arith)))
 
-      one : all_pass K m p c b.commands ≡ true → (j : ℕ) (o : Option Place) → lookup_by number_of b.commands j ≡ o → passes K m p c j (mapped view_open o) ≡ true
+      one : all_pass K m p c b.commands.0 ≡ true → (j : ℕ) (o : Option Place) → lookup_by number_of b.commands.0 j ≡ o → passes K m p c j (mapped view_open o) ≡ true
       one h j None e = refl
       one h j (Some o) e =
-          let w = lookup_place number_of b.commands j o e in
-          subst (λ x. passes K m p c x (Some (view_open o)) ≡ true) w.2 (each_of (λ q. passes K m p c q.number (Some (view_open q))) b.commands h w.0 o w.1)
+          let w = lookup_place number_of b.commands.0 j o e in
+          subst (λ x. passes K m p c x (Some (view_open o)) ≡ true) w.2 (each_of (λ q. passes K m p c q.number (Some (view_open q))) b.commands.0 h w.0 o w.1)
 
-      back : all_pass K m p c b.commands ≡ true → unhindered K (view_tables b) m p c ≡ true
+      back : all_pass K m p c b.commands.0 ≡ true → unhindered K (view_tables b) m p c ≡ true
       back h =
-          all_from (suc b.issued) (λ j. passes K m p c j ((view_tables b).table j)) (λ j l. one h j (lookup_by number_of b.commands j) refl)
+          all_from (suc b.issued) (λ j. passes K m p c j ((view_tables b).table j)) (λ j l. one h j (lookup_by number_of b.commands.0 j) refl)
 
-  ready_view : (o : Place) → ready_if K (view_tables b) m o.number (Some (view_open o)) (settled_as m (Some (view_open o))) ≡ ready_place K m b.commands o
+  ready_view : (o : Place) → ready_if K (view_tables b) m o.number (Some (view_open o)) (settled_as m (Some (view_open o))) ≡ ready_place K m b.commands.0 o
   ready_view o = go (settled_as m (Some (view_open o)))
     where
-      go : (f : Option ℕ) → ready_if K (view_tables b) m o.number (Some (view_open o)) f ≡ ready_in K m b.commands o f
+      go : (f : Option ℕ) → ready_if K (view_tables b) m o.number (Some (view_open o)) f ≡ ready_in K m b.commands.0 o f
       go None = refl
       go (Some f) = ap (λ t. cond t (Some f) None) (pass_view (f, o.number) o.command)
 
-  ready_at_lem : (i : ℕ) (o : Place) → slice_get b.commands i ≡ Some o → ready_at K (view_tables b) m o.number ≡ ready_place K m b.commands o
+  ready_at_lem : (i : ℕ) (o : Place) → slice_get b.commands.0 i ≡ Some o → ready_at K (view_tables b) m o.number ≡ ready_place K m b.commands.0 o
   ready_at_lem i o at =
       ap (λ x. ready_if K (view_tables b) m o.number x (settled_as m x)) (ap (mapped view_open) (found i o at)) ∙ ready_view o
 
@@ -58,17 +58,17 @@ module _ (K : Kind) (b : Tables) (g : Good b) (m : ℕ) where
   record Placed (k f : ℕ) : Type 0 where
     i : ℕ
     o : Place
-    at : slice_get b.commands i ≡ Some o
+    at : slice_get b.commands.0 i ≡ Some o
     number : o.number ≡ k
-    ready : ready_place K m b.commands o ≡ Some f
+    ready : ready_place K m b.commands.0 o ≡ Some f
 
   placed : (k f : ℕ) → ready_at K (view_tables b) m k ≡ Some f → Placed k f
-  placed k f h = go (lookup_by number_of b.commands k) refl
+  placed k f h = go (lookup_by number_of b.commands.0 k) refl
     where
-      go : (x : Option Place) → lookup_by number_of b.commands k ≡ x → Placed k f
+      go : (x : Option Place) → lookup_by number_of b.commands.0 k ≡ x → Placed k f
       go None e = absurd (none-some _ (sym (ap (λ y. ready_if K (view_tables b) m k (mapped view_open y) (settled_as m (mapped view_open y))) e) ∙ h))
       go (Some o) e =
-          let w = lookup_place number_of b.commands k o e in
+          let w = lookup_place number_of b.commands.0 k o e in
           record {
             i = w.0;
             o = o;
@@ -77,10 +77,10 @@ module _ (K : Kind) (b : Tables) (g : Good b) (m : ℕ) where
             ready = sym (ready_at_lem w.0 o w.1) ∙ (ap (ready_at K (view_tables b) m) w.2 ∙ h);
           }
 
-  used_length : (i : ℕ) (o : Place) → slice_get b.commands i ≡ Some o → i < (length b.commands)
-  used_length i o at = slice_get_within b.commands i o at
+  used_length : (i : ℕ) (o : Place) → slice_get b.commands.0 i ≡ Some o → i < (length b.commands.0)
+  used_length i o at = slice_get_within b.commands.0 i o at
 
-  pub none_ready : BestTo K m b.commands (length b.commands) None → earliest_below (suc b.issued) (ready_at K (view_tables b) m) ≡ None
+  pub none_ready : BestTo K m b.commands.0 (length b.commands.0) None → earliest_below (suc b.issued) (ready_at K (view_tables b) m) ≡ None
   none_ready best = go (earliest_below (suc b.issued) (ready_at K (view_tables b) m)) refl
     where
       go : (e : Option Pair) → earliest_below (suc b.issued) (ready_at K (view_tables b) m) ≡ e → e ≡ None
@@ -90,7 +90,7 @@ module _ (K : Kind) (b : Tables) (g : Good b) (m : ℕ) where
           let q = placed p.1 p.0 w.1 in
           absurd (none-some _ (sym (best q.i q.o (used_length q.i q.o q.at) q.at) ∙ q.ready))
 
-  pub one_ready : (c : Candidate) → BestTo K m b.commands (length b.commands) (Some c) → earliest_below (suc b.issued) (ready_at K (view_tables b) m) ≡ Some c.pair
+  pub one_ready : (c : Candidate) → BestTo K m b.commands.0 (length b.commands.0) (Some c) → earliest_below (suc b.issued) (ready_at K (view_tables b) m) ≡ Some c.pair
   one_ready c best =
       let o = best.0 in
       let k = o.number in

@@ -1,7 +1,8 @@
 -- A hear and a settle at one member, on its fixed places and in the model.
-use Rattle.std.proofs.Common.{◌≡◌, ℕ, ◌+◌, ◌<◌, ◌≤◌, Bool, true, false, cond, not, ◌&&◌, eqb, ltb, leb, [], length, Some, None, Option, sym, refl, ap, ◌∙◌, subst, add-one, arith}
+use Rattle.std.proofs.Common.{◌≡◌, ℕ, ◌+◌, ◌<◌, ◌≤◌, Bool, true, false, cond, not, ◌&&◌, eqb, ltb, leb, length, Some, None, Option, sym, refl, ap, ◌∙◌, subst, add-one, arith}
 use Rattle.std.proofs.lemmas.Bool.{lt-ltb, le-ltb, ltb-true, leb-false, leb-true, or_parts, cond-true, cond-false, and_parts, not-true, false≢true}
 use Rattle.line.specs.declared.parts.Member.{Member as Seat}
+use Rattle.line.specs.Listings.{emptied}
 use Rattle.line.specs.Tables.{view_member, SeatFits}
 use Rattle.line.specs.Views.{any_number, any_clash, rises_in, proposal_in, risen_seat, lift_in, remember_in, hear_in, settle_in}
 use Rattle.line.proofs.SeatViews.{Known, full_view, rises_view, number_view, remember_view, remember_fits}
@@ -14,7 +15,7 @@ use Rattle.ordering.specs.Steps.{is_full, must_rise, risen, remember, hearer, se
 
 -- A seat with its clock at t and nothing remembered.
 abbrev pub cleared : Seat → ℕ → Seat
-cleared p t = record { clock = t; remembered = [] }
+cleared p t = record { clock = t; remembered = emptied p.remembered }
 
 cleared_fits : (p : Seat) (t : ℕ) → SeatFits (cleared p t)
 cleared_fits p t = record { few = omega arith; distinct = refl }
@@ -25,7 +26,7 @@ pub record Shows (p : Seat) (x : Member) : Type 0 where
   pub fits : SeatFits p
 
 -- Something new remembered.
-remembered : (p : Seat) (x : Member) → Shows p x → (k : ℕ) (c : Command) → (length p.remembered) < 16 → x.remembers k ≡ None → Shows (remember_in p k c) (remember k c x)
+remembered : (p : Seat) (x : Member) → Shows p x → (k : ℕ) (c : Command) → (length p.remembered.0) < 16 → x.remembers k ≡ None → Shows (remember_in p k c) (remember k c x)
 remembered p x s k c few new =
     let none : (view_member p).remembers k ≡ None = ap (λ y. y.remembers k) s.view ∙ new in
     record {
@@ -40,16 +41,16 @@ module _ (issued : ℕ) (p : Seat) (f : SeatFits p) (known : Known issued p) whe
   ready false t = p
 
   pub record Hears (K : Kind) (k : ℕ) (c : Command) (t : ℕ) : Type 0 where
-    pub room : (length (lift_in p t).remembered) < 16
+    pub room : (length (lift_in p t).remembered.0) < 16
     pub shows : Shows (hear_in p k c t) (hearer K issued k c (view_member p))
 
   pub hear_seat : (K : Kind) (k : ℕ) (c : Command) (t : ℕ) → t ≡ proposal_in K p c → (view_member p).remembers k ≡ None → Hears K k c t
   hear_seat K k c t is new = go (rises_in K p c) refl
     where
-      result : (q : Seat) → lift_in p t ≡ q → length q.remembered < 16 → (r : Bool) → must_rise K issued c (view_member p) ≡ r → Shows q (cond r (risen (view_member p)) (view_member p)) → (cond r (risen (view_member p)) (view_member p)).remembers k ≡ None → Hears K k c t
+      result : (q : Seat) → lift_in p t ≡ q → length q.remembered.0 < 16 → (r : Bool) → must_rise K issued c (view_member p) ≡ r → Shows q (cond r (risen (view_member p)) (view_member p)) → (cond r (risen (view_member p)) (view_member p)).remembers k ≡ None → Hears K k c t
       result q e few r rise s none =
           record {
-            room = subst (λ x. (length x.remembered) < 16) (sym e) few;
+            room = subst (λ x. (length x.remembered.0) < 16) (sym e) few;
             shows = subst (λ x. Shows (remember_in x k c) (hearer K issued k c (view_member p))) (sym e) (subst (λ x. Shows (remember_in q k c) (remember k c (cond x (risen (view_member p)) (view_member p)))) (sym rise) (remembered q (cond r (risen (view_member p)) (view_member p)) s k c few none));
           }
 
@@ -67,7 +68,7 @@ module _ (issued : ℕ) (p : Seat) (f : SeatFits p) (known : Known issued p) whe
           refl
       go false e =
           let w : t ≡ p.clock = level e in
-          let few : (length p.remembered) < 16 = leb-false 16 (length p.remembered) (or_parts (leb 16 (length p.remembered)) (any_clash K c p.remembered) e).0 in
+          let few : (length p.remembered.0) < 16 = leb-false 16 (length p.remembered.0) (or_parts (leb 16 (length p.remembered.0)) (any_clash K c p.remembered.0) e).0 in
           result p (cond-false (ltb p.clock t) (cleared p t) p (le-ltb p.clock t (omega arith))) few false (rises_view issued p f known K c ∙ e) (record { view = refl; fits = f }) new
 
   pub hear_clock : (K : Kind) (k : ℕ) (c : Command) (t : ℕ) → t ≡ proposal_in K p c → (hear_in p k c t).clock ≡ t
@@ -105,20 +106,20 @@ module _ (issued : ℕ) (p : Seat) (f : SeatFits p) (known : Known issued p) whe
       absent None h = refl
       absent (Some x) h = absurd (false≢true h)
 
-      by_room : (view_member p).remembers k ≡ None → (r : Bool) → leb 16 (length p.remembered) ≡ r → Shows (cond r (risen_seat p) (remember_in p k c)) (cond r (risen (view_member p)) (remember k c (view_member p)))
+      by_room : (view_member p).remembers k ≡ None → (r : Bool) → leb 16 (length p.remembered.0) ≡ r → Shows (cond r (risen_seat p) (remember_in p k c)) (cond r (risen (view_member p)) (remember k c (view_member p)))
       by_room new true e = rising
-      by_room new false e = remembered p (view_member p) own k c (leb-false 16 (length p.remembered) e) new
+      by_room new false e = remembered p (view_member p) own k c (leb-false 16 (length p.remembered.0) e) new
 
-      by_memory : (r : Bool) → (eqb t p.clock && not (any_number k p.remembered)) ≡ r → Shows (cond r (cond (leb 16 (length p.remembered)) (risen_seat p) (remember_in p k c)) p) (cond r (cond (leb 16 (length p.remembered)) (risen (view_member p)) (remember k c (view_member p))) (view_member p))
+      by_memory : (r : Bool) → (eqb t p.clock && not (any_number k p.remembered.0)) ≡ r → Shows (cond r (cond (leb 16 (length p.remembered.0)) (risen_seat p) (remember_in p k c)) p) (cond r (cond (leb 16 (length p.remembered.0)) (risen (view_member p)) (remember k c (view_member p))) (view_member p))
       by_memory true e =
-          by_room (absent ((view_member p).remembers k) (ap not (number_view issued p f known k) ∙ (and_parts (eqb t p.clock) (not (any_number k p.remembered)) e).1)) (leb 16 (length p.remembered)) refl
+          by_room (absent ((view_member p).remembers k) (ap not (number_view issued p f known k) ∙ (and_parts (eqb t p.clock) (not (any_number k p.remembered.0)) e).1)) (leb 16 (length p.remembered.0)) refl
       by_memory false e = own
 
-      tests : settler issued k c t (view_member p) ≡ cond (ltb p.clock t) (record { clock = t; remembers = put k (Some c) (λ j. None) }) (cond (eqb t p.clock && not (any_number k p.remembered)) (cond (leb 16 (length p.remembered)) (risen (view_member p)) (remember k c (view_member p))) (view_member p))
+      tests : settler issued k c t (view_member p) ≡ cond (ltb p.clock t) (record { clock = t; remembers = put k (Some c) (λ j. None) }) (cond (eqb t p.clock && not (any_number k p.remembered.0)) (cond (leb 16 (length p.remembered.0)) (risen (view_member p)) (remember k c (view_member p))) (view_member p))
       tests =
           ap (λ x. cond (ltb p.clock t) (record { clock = t; remembers = put k (Some c) (λ j. None) }) (cond (eqb t p.clock && not x) (cond (is_full issued (view_member p)) (risen (view_member p)) (remember k c (view_member p))) (view_member p))) (number_view issued p f known k)
-          ∙ ap (λ x. cond (ltb p.clock t) (record { clock = t; remembers = put k (Some c) (λ j. None) }) (cond (eqb t p.clock && not (any_number k p.remembered)) (cond x (risen (view_member p)) (remember k c (view_member p))) (view_member p))) (full_view issued p f known)
+          ∙ ap (λ x. cond (ltb p.clock t) (record { clock = t; remembers = put k (Some c) (λ j. None) }) (cond (eqb t p.clock && not (any_number k p.remembered.0)) (cond x (risen (view_member p)) (remember k c (view_member p))) (view_member p))) (full_view issued p f known)
 
-      cases : (r : Bool) → ltb p.clock t ≡ r → Shows (cond r (remember_in (lift_in p t) k c) (cond (eqb t p.clock && not (any_number k p.remembered)) (cond (leb 16 (length p.remembered)) (risen_seat p) (remember_in p k c)) p)) (cond r (record { clock = t; remembers = put k (Some c) (λ j. None) }) (cond (eqb t p.clock && not (any_number k p.remembered)) (cond (leb 16 (length p.remembered)) (risen (view_member p)) (remember k c (view_member p))) (view_member p)))
+      cases : (r : Bool) → ltb p.clock t ≡ r → Shows (cond r (remember_in (lift_in p t) k c) (cond (eqb t p.clock && not (any_number k p.remembered.0)) (cond (leb 16 (length p.remembered.0)) (risen_seat p) (remember_in p k c)) p)) (cond r (record { clock = t; remembers = put k (Some c) (λ j. None) }) (cond (eqb t p.clock && not (any_number k p.remembered.0)) (cond (leb 16 (length p.remembered.0)) (risen (view_member p)) (remember k c (view_member p))) (view_member p)))
       cases true e = lifted e
-      cases false e = by_memory (eqb t p.clock && not (any_number k p.remembered)) refl
+      cases false e = by_memory (eqb t p.clock && not (any_number k p.remembered.0)) refl

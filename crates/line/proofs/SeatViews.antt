@@ -37,49 +37,49 @@ abbrev pub Known : ℕ → Seat → Type 0
 Known issued p = (k : ℕ) (c : Command) → (view_member p).remembers k ≡ Some c → k ≤ issued
 
 module _ (issued : ℕ) (p : Seat) (f : SeatFits p) (known : Known issued p) where
-  held_known : (i : ℕ) (r : Remembered) → slice_get p.remembered i ≡ Some r → held_number r < suc issued
+  held_known : (i : ℕ) (r : Remembered) → slice_get p.remembered.0 i ≡ Some r → held_number r < suc issued
   held_known i r at =
-      let w : held_number r ≤ issued = known (held_number r) (held_command r) (ap (mapped held_command) (lookup_own held_number p.remembered i r f.distinct at)) in
+      let w : held_number r ≤ issued = known (held_number r) (held_command r) (ap (mapped held_command) (lookup_own held_number p.remembered.0 i r f.distinct at)) in
       omega arith
 
-  held_count_lem : held_count issued (view_member p) ≡ (length p.remembered)
+  held_count_lem : held_count issued (view_member p) ≡ (length p.remembered.0)
   held_count_lem =
-      count_same (suc issued) (λ k. present (view_memory p.remembered k)) (λ k. present (lookup_by held_number p.remembered k)) (λ k. mapped-present held_command (lookup_by held_number p.remembered k)) ∙ count_keys held_number (suc issued) p.remembered f.distinct held_known
+      count_same (suc issued) (λ k. present (view_memory p.remembered.0 k)) (λ k. present (lookup_by held_number p.remembered.0 k)) (λ k. mapped-present held_command (lookup_by held_number p.remembered.0 k)) ∙ count_keys held_number (suc issued) p.remembered.0 f.distinct held_known
 
-  pub full_view : is_full issued (view_member p) ≡ leb 16 (length p.remembered)
+  pub full_view : is_full issued (view_member p) ≡ leb 16 (length p.remembered.0)
   full_view = ap (leb 16) held_count_lem
 
   -- A remembered command conflicts, by the list or by the numbers.
-  clash_view : (K : Kind) (c : Command) → any_below (suc issued) (λ k. clashes K c (view_memory p.remembered k)) ≡ any_clash K c p.remembered
+  clash_view : (K : Kind) (c : Command) → any_below (suc issued) (λ k. clashes K c (view_memory p.remembered.0 k)) ≡ any_clash K c p.remembered.0
   clash_view K c = same_tests _ _ there back
     where
-      found : (k : ℕ) (o : Option Remembered) → lookup_by held_number p.remembered k ≡ o → clashes K c (mapped held_command o) ≡ true → any_clash K c p.remembered ≡ true
+      found : (k : ℕ) (o : Option Remembered) → lookup_by held_number p.remembered.0 k ≡ o → clashes K c (mapped held_command o) ≡ true → any_clash K c p.remembered.0 ≡ true
       found k None e h = absurd (false≢true h)
       found k (Some r) e h =
-          let w = lookup_place held_number p.remembered k r e in
-          any_at (λ x. K.conflict x.command c) p.remembered w.0 r w.1 h
+          let w = lookup_place held_number p.remembered.0 k r e in
+          any_at (λ x. K.conflict x.command c) p.remembered.0 w.0 r w.1 h
 
-      there : any_below (suc issued) (λ k. clashes K c (view_memory p.remembered k)) ≡ true → any_clash K c p.remembered ≡ true
+      there : any_below (suc issued) (λ k. clashes K c (view_memory p.remembered.0 k)) ≡ true → any_clash K c p.remembered.0 ≡ true
       there h =
-          let w = any_found (suc issued) (λ k. clashes K c (view_memory p.remembered k)) h in
-          found w.0 (lookup_by held_number p.remembered w.0) refl w.2
+          let w = any_found (suc issued) (λ k. clashes K c (view_memory p.remembered.0 k)) h in
+          found w.0 (lookup_by held_number p.remembered.0 w.0) refl w.2
 
-      back : any_clash K c p.remembered ≡ true → any_below (suc issued) (λ k. clashes K c (view_memory p.remembered k)) ≡ true
-      back h = go (any_below (suc issued) (λ k. clashes K c (view_memory p.remembered k))) refl
+      back : any_clash K c p.remembered.0 ≡ true → any_below (suc issued) (λ k. clashes K c (view_memory p.remembered.0 k)) ≡ true
+      back h = go (any_below (suc issued) (λ k. clashes K c (view_memory p.remembered.0 k))) refl
         where
-          w : (i : ℕ) × (x : Remembered) × (slice_get p.remembered i ≡ Some x) × (K.conflict x.command c ≡ true)
-          w = some_of (λ x. K.conflict x.command c) p.remembered h
+          w : (i : ℕ) × (x : Remembered) × (slice_get p.remembered.0 i ≡ Some x) × (K.conflict x.command c ≡ true)
+          w = some_of (λ x. K.conflict x.command c) p.remembered.0 h
 
-          go : (t : Bool) → any_below (suc issued) (λ k. clashes K c (view_memory p.remembered k)) ≡ t → t ≡ true
+          go : (t : Bool) → any_below (suc issued) (λ k. clashes K c (view_memory p.remembered.0 k)) ≡ t → t ≡ true
           go true e = refl
           go false e =
-              absurd (false≢true (sym (any_none (suc issued) (λ k. clashes K c (view_memory p.remembered k)) e (held_number w.1) (held_known w.0 w.1 w.2)) ∙ (ap (λ o. clashes K c (mapped held_command o)) (lookup_own held_number p.remembered w.0 w.1 f.distinct w.2) ∙ w.3)))
+              absurd (false≢true (sym (any_none (suc issued) (λ k. clashes K c (view_memory p.remembered.0 k)) e (held_number w.1) (held_known w.0 w.1 w.2)) ∙ (ap (λ o. clashes K c (mapped held_command o)) (lookup_own held_number p.remembered.0 w.0 w.1 f.distinct w.2) ∙ w.3)))
 
   pub rises_view : (K : Kind) (c : Command) → must_rise K issued c (view_member p) ≡ rises_in K p c
-  rises_view K c = ap (λ t. t || any_below (suc issued) (λ k. clashes K c (view_memory p.remembered k))) full_view ∙ ap (λ t. leb 16 (length p.remembered) || t) (clash_view K c)
+  rises_view K c = ap (λ t. t || any_below (suc issued) (λ k. clashes K c (view_memory p.remembered.0 k))) full_view ∙ ap (λ t. leb 16 (length p.remembered.0) || t) (clash_view K c)
 
-  pub number_view : (k : ℕ) → present ((view_member p).remembers k) ≡ any_number k p.remembered
-  number_view k = mapped-present held_command (lookup_by held_number p.remembered k) ∙ go p.remembered
+  pub number_view : (k : ℕ) → present ((view_member p).remembers k) ≡ any_number k p.remembered.0
+  number_view k = mapped-present held_command (lookup_by held_number p.remembered.0 k) ∙ go p.remembered.0
     where
       go : (rs : List Remembered) → present (lookup_by held_number rs k) ≡ any_number k rs
       go [] = refl
@@ -94,14 +94,14 @@ unmapped f None e = refl
 unmapped f (Some r) e = absurd (none-some _ (sym e))
 
 -- A command put into the memory.
-module _ (p : Seat) (few : length p.remembered < 16) (k : ℕ) (c : Command) where
+module _ (p : Seat) (few : length p.remembered.0 < 16) (k : ℕ) (c : Command) where
   pub remember_view : (view_member p).remembers k ≡ None → view_member (remember_in p k c) ≡ remember k c (view_member p)
   remember_view new =
-      member_path (view_member (remember_in p k c)) (remember k c (view_member p)) refl (λ j. ap (mapped held_command) (lookup_push held_number p.remembered (record { number = k; command = c }) (unmapped held_command (lookup_by held_number p.remembered k) new) j) ∙ mapped-put held_command k j (Some (record { number = k; command = c })) (lookup_by held_number p.remembered))
+      member_path (view_member (remember_in p k c)) (remember k c (view_member p)) refl (λ j. ap (mapped held_command) (lookup_push held_number p.remembered.0 (record { number = k; command = c }) (unmapped held_command (lookup_by held_number p.remembered.0 k) new) j) ∙ mapped-put held_command k j (Some (record { number = k; command = c })) (lookup_by held_number p.remembered.0))
 
-  pub remember_fits : apart held_number p.remembered ≡ true → (view_member p).remembers k ≡ None → SeatFits (remember_in p k c)
+  pub remember_fits : apart held_number p.remembered.0 ≡ true → (view_member p).remembers k ≡ None → SeatFits (remember_in p k c)
   remember_fits distinct new =
       record {
-        few = let w = length-append p.remembered (record { number = k; command = c } ∷ []) in omega arith;
-        distinct = apart_push held_number p.remembered (record { number = k; command = c }) distinct (unmapped held_command (lookup_by held_number p.remembered k) new);
+        few = let w = length-append p.remembered.0 (record { number = k; command = c } ∷ []) in omega arith;
+        distinct = apart_push held_number p.remembered.0 (record { number = k; command = c }) distinct (unmapped held_command (lookup_by held_number p.remembered.0 k) new);
       }

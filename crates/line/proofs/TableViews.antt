@@ -75,20 +75,20 @@ set_twice [] i x y = refl
 set_twice (z ∷ zs) zero x y = refl
 set_twice (z ∷ zs) (suc i) x y = ap (λ ys. z ∷ ys) (set_twice zs i x y)
 
-module _ (b : Tables) (f : Fits b) (i : ℕ) (p p' : Place) (l : i < (length b.commands)) (at : slice_get b.commands i ≡ Some p) (same : p'.number ≡ p.number) where
-  pub view_place : (k : ℕ) → view_table ((with_place b i p').commands) k ≡ put p.number (Some (view_open p')) (view_table b.commands) k
+module _ (b : Tables) (f : Fits b) (i : ℕ) (p p' : Place) (l : i < (length b.commands.0)) (at : slice_get b.commands.0 i ≡ Some p) (same : p'.number ≡ p.number) where
+  pub view_place : (k : ℕ) → view_table ((with_place b i p').commands.0) k ≡ put p.number (Some (view_open p')) (view_table b.commands.0) k
   view_place k =
-      ap (mapped view_open) (lookup_set number_of b.commands i p p' f.distinct at same k) ∙ mapped-put view_open p.number k (Some p') (lookup_by number_of b.commands)
+      ap (mapped view_open) (lookup_set number_of b.commands.0 i p p' f.distinct at same k) ∙ mapped-put view_open p.number k (Some p') (lookup_by number_of b.commands.0)
 
   pub fits_place : length p'.destinations ≡ 16 → Fits (with_place b i p')
   fits_place wide =
       record {
-        few = let w = length-set b.commands i p' in let v : length b.commands ≤ 32 = f.few in omega arith;
+        few = let w = length-set b.commands.0 i p' in let v : length b.commands.0 ≤ 32 = f.few in omega arith;
         seats = f.seats;
         numbers = f.numbers;
         lasts = f.lasts;
-        distinct = apart_set number_of b.commands i p p' f.distinct at same;
-        wide = λ j q e. ⊎_elim (λ w. subst (λ x. length x.destinations ≡ 16) w wide) (λ w. f.wide j q w) (slice_get-set b.commands i j p' q e);
+        distinct = apart_set number_of b.commands.0 i p p' f.distinct at same;
+        wide = λ j q e. ⊎_elim (λ w. subst (λ x. length x.destinations ≡ 16) w wide) (λ w. f.wide j q w) (slice_get-set b.commands.0 i j p' q e);
         seated = f.seated;
       }
 

@@ -6,7 +6,7 @@ use Rattle.line.specs.declared.parts.Tables.{Tables}
 use Rattle.open_commands.specs.declared.parts.OpenCommand.{OpenCommand as Place}
 use Rattle.std.specs.List.{slice_get}
 use Rattle.line.specs.Books.{view_book}
-use Rattle.line.specs.Tables.{removed_at}
+use Rattle.line.specs.Tables.{live, removed_at}
 use Rattle.open_commands.specs.Views.{view_open}
 use Rattle.line.specs.Views.{new_seat}
 use Rattle.ordering.specs.declared.calls.Refusal.{Refusal}
@@ -18,7 +18,7 @@ pub record EmptyTables (n last : ℕ) (b : Tables) : Type 0 where
   pub members : b.members ≡ n
   pub lasts : b.last ≡ last
   pub issued : b.issued ≡ 0
-  pub commands : b.commands ≡ []
+  pub commands : live b ≡ []
   pub seats : length b.roll ≡ 16
   pub roll : (m : ℕ) → slice_index_or b.roll m new_seat ≡ new_seat
 
@@ -39,8 +39,8 @@ Runs x b (Err e) b' = (x ≡ Err e) × (b' ≡ b)
 
 -- The command at place i leaves if it has run everywhere, and the last one takes its place.
 abbrev pub released_by : Bool → Tables → ℕ → Tables → Type 0
-released_by true b i b' = (p : Place) → slice_get b.commands (length b.commands - 1) ≡ Some p → b' ≡ removed_at b i p
+released_by true b i b' = (p : Place) → slice_get (live b) (length (live b) - 1) ≡ Some p → b' ≡ removed_at b i p
 released_by false b i b' = b' ≡ b
 
 abbrev pub Releases : Tables → ℕ → Tables → Type 0
-Releases b i b' = (p : Place) → slice_get b.commands i ≡ Some p → released_by (everywhere is_run (view_open p)) b i b'
+Releases b i b' = (p : Place) → slice_get (live b) i ≡ Some p → released_by (everywhere is_run (view_open p)) b i b'

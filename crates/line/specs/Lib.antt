@@ -2,6 +2,7 @@ pub mod Asking
 pub mod Books
 pub mod Calls
 pub mod Counts
+pub mod Listings
 pub mod Places
 pub mod Promises
 pub mod Tables

@@ -1,6 +1,6 @@
 //! A member: its clock and the commands that it remembers.
 ghost use Rattle.std.specs.Prelude.{◌≡◌, ◌+◌, ◌^◌, ◌<◌, true, false, length};
-ghost use Rattle.line.specs.Views.{new_seat, any_clash, any_number, rises_in, proposal_in, lift_in, remember_in, hear_in, settle_in};
+ghost use Rattle.line.specs.Views.{new_seat, memory, any_clash, any_number, rises_in, proposal_in, lift_in, remember_in, hear_in, settle_in};
 
 use crate::fixed_list::FixedList;
 use crate::parts::{Member, Remembered};
@@ -44,7 +44,7 @@ impl Member {
 
     /// Whether the member remembers the number.
     fn remembers(&self, number: u64) -> bool
-        ensures { result ≡ any_number number self.now.remembered }
+        ensures { result ≡ any_number number (memory self.now) }
     {
         self.remembered
             .as_slice()
@@ -53,7 +53,7 @@ impl Member {
     }
 
     fn remember(&mut self, held: Remembered)
-        requires { length self.old.remembered < 16 }
+        requires { length (memory self.old) < 16 }
         ensures { self.new ≡ remember_in self.old held.number held.command }
     {
         self.remembered.push(held);
@@ -83,7 +83,7 @@ impl Member {
 
     /// Hears the command, with the timestamp that the member proposes for it.
     pub(crate) fn hear(&mut self, heard: Remembered, timestamp: u64)
-        requires { length (lift_in self.old timestamp).remembered < 16 }
+        requires { length (memory (lift_in self.old timestamp)) < 16 }
         ensures { self.new ≡ hear_in self.old heard.number heard.command timestamp }
     {
         self.lift(timestamp);

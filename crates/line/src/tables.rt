@@ -3,7 +3,7 @@ ghost use Rattle.std.specs.Prelude.{◌≡◌, ◌<◌, Some, length};
 ghost use Rattle.std.specs.List.{slice_get};
 ghost use Rattle.open_commands.specs.declared.parts.OpenCommand.{OpenCommand as Place};
 ghost use Rattle.open_commands.specs.Views.{view_open, with_phase_in, with_fixed_in};
-ghost use Rattle.line.specs.Tables.{with_place};
+ghost use Rattle.line.specs.Tables.{live, with_place};
 ghost use Rattle.line.specs.Calls.{EmptyTables, Releases};
 ghost use Rattle.ordering.specs.Steps.{final_of};
 
@@ -32,8 +32,8 @@ impl Tables {
     /// Moves one destination of the command at the place to another phase.
     // It reaches into the list, as fix does: an element of an array that a method lends gets no proof yet.
     pub(crate) fn put_phase(&mut self, place: usize, member: usize, phase: Phase)
-        requires { place < length self.old.commands }
-        ensures { (p : Place) → slice_get self.old.commands place ≡ Some p → self.new ≡ with_place self.old place (with_phase_in p member phase) }
+        requires { place < length (live self.old) }
+        ensures { (p : Place) → slice_get (live self.old) place ≡ Some p → self.new ≡ with_place self.old place (with_phase_in p member phase) }
     {
         let commands = &mut self.commands;
         let open = &mut commands.places[..commands.len];
@@ -42,8 +42,8 @@ impl Tables {
 
     /// Fixes the final timestamp of the command at the place once every destination is gathered.
     pub(crate) fn fix(&mut self, place: usize) -> Option<u64>
-        requires { place < length self.old.commands }
-        ensures { (p : Place) → slice_get self.old.commands place ≡ Some p → (result ≡ final_of (view_open p)) × (self.new ≡ with_place self.old place (with_fixed_in p (final_of (view_open p)))) }
+        requires { place < length (live self.old) }
+        ensures { (p : Place) → slice_get (live self.old) place ≡ Some p → (result ≡ final_of (view_open p)) × (self.new ≡ with_place self.old place (with_fixed_in p (final_of (view_open p)))) }
     {
         let commands = &mut self.commands;
         let open = &mut commands.places[..commands.len];
@@ -52,7 +52,7 @@ impl Tables {
 
     /// A command that has run everywhere leaves its place, and the last open command takes it.
     pub(crate) fn release(&mut self, place: usize)
-        requires { place < length self.old.commands }
+        requires { place < length (live self.old) }
         ensures { Releases self.old place self.new }
     {
         if self.commands.at(place).has_run() {

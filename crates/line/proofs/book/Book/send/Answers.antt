@@ -9,7 +9,7 @@ room n e l = let ne = eqb-false n 32 (sym e) in omega (arith, ne)
 
 pub returns-then-is_full : goal.returns-then-is_full
 returns-then-is_full c =
-    let many : length c.args.self.now.tables.commands ≡ 32 = eqb-true _ _ (sym c.is_full.ensures.full ∙ c.if-is_full.true) in
+    let many : length c.args.self.now.tables.commands.0 ≡ 32 = eqb-true _ _ (sym c.is_full.ensures.full ∙ c.if-is_full.true) in
     (send_full c.args.self.now.tables (carried c.args.self.now.tables c.args.self.now.good) c.args.sender c.args.set c.args.command c.in_ok-address.address c.in_ok-address.ensures c.if-self.false (omega arith), refl)
 
 pub invariant_of-self : goal.invariant_of-self

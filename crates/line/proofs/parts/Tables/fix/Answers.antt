@@ -10,6 +10,6 @@ returns c p at =
     let l = c.commands.inside in
     let same = lent l.places l.len c.args.self.now.commands c.commands.view_is c.args.place p c.index-open-place.result at in (
       c.fix.ensures.value ∙ ap (λ x. final_of (view_open x)) same,
-      ap (λ cs. record { members = c.args.self.now.members; last = c.args.self.now.last; issued = c.args.self.now.issued; commands = cs; roll = c.args.self.now.roll }) (given_back l.places l.len c.args.self.now.commands c.commands.view_is (omega (arith, c.commands.invariant)) c.args.place c.fix.new.self _)
+      ap (λ cs. record { members = c.args.self.now.members; last = c.args.self.now.last; issued = c.args.self.now.issued; commands = cs; roll = c.args.self.now.roll }) (given_back l.places l.len c.args.self.now.commands c.commands.view_is (omega (arith, c.commands.invariant)) c.args.place c.fix.new.self)
           ∙ ap (with_place c.args.self.now c.args.place) (c.fix.ensures.after ∙ ap (λ x. with_fixed_in x (final_of (view_open x))) same),
     )
