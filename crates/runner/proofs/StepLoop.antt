@@ -1,5 +1,5 @@
 -- The steps of a script, one by one.
-use Rattle.std.proofs.Common.{◌≡◌, ℕ, zero, suc, ◌+◌, ◌-◌, ◌^◌, ◌<◌, ◌≤◌, cond, ltb, List, [], ◌∷◌, ◌++◌, length, drop, Some, Ok, Err, Result, sym, refl, ap, ◌∙◌, subst, arith}
+use Rattle.std.proofs.Common.{◌≡◌, ℕ, zero, suc, ◌+◌, ◌-◌, ◌^◌, ◌<◌, ◌≤◌, cond, List, [], ◌∷◌, ◌++◌, length, drop, Some, Ok, Err, Result, sym, refl, ap, ◌∙◌, subst, arith}
 use Rattle.std.proofs.lemmas.Bool.{le-leb, lt-leb}
 use Rattle.line.specs.Counts.{member_count}
 use Rattle.machine.specs.Kinds.{Kind, Laws}
@@ -23,7 +23,7 @@ use Rattle.runner.specs.Cells.{cell_records, station_records}
 use Rattle.runner.specs.declared.records.Record.{Record}
 use Rattle.runner.specs.declared.records.Records.{Records}
 use Rattle.runner.specs.Following.{Follows, end_of}
-use Rattle.runner.specs.Runs.{answer_to, fault_as, finish, in_record, next_step, runs, runs_from, steps, writes, writes_all}
+use Rattle.runner.specs.Runs.{answer_to, fault_as, finish, next_step, runs, runs_from, steps, writes, writes_all}
 use Rattle.runner.specs.Writing.{Sofar, Wrote, room_of}
 use Rattle.runner.proofs.Bounds.{cell_count, few_members, shown_small}
 use Rattle.runner.proofs.StepBounds.{Taken, taken}
@@ -53,11 +53,8 @@ going_start {K} {script} {t} {at} {n} {l} {held} first none is fresh =
       cells = λ m near. sym (fresh m near);
     }
 
--- The record r comes next, and there is room for its record in the trace or not.
-module _ {K : Kind} {script : List ℕ} {t₀ t : Trace} {s : Records} {r : Record} {u : Records} {l : Line} {held : ℕ → List ℕ} (w : Going K script t₀ t s.at s.number l held) (f : Follows script s r u) where
-  in_turn : cond (ltb (room_of t) 48) (Err (fault_as TraceFull r.number r.at)) (in_record r.number r.read) ≡ next_step script (room_of t) (suc s.number) s.at
-  in_turn = λ i. cond (ltb (room_of t) 48) (Err (fault_as TraceFull (f.number i) (f.at i))) (in_record (f.number i) (f.read i))
-
+-- A record comes next, and there is room for its record in the trace or not.
+module _ {K : Kind} {script : List ℕ} {t₀ t : Trace} (s : Records) {l : Line} {held : ℕ → List ℕ} (w : Going K script t₀ t s.at s.number l held) (left : s.at < length script) where
   record Next : Type 0 where
     fuel : ℕ
     enough : length script ≤ s.at + fuel
@@ -67,21 +64,18 @@ module _ {K : Kind} {script : List ℕ} {t₀ t : Trace} {s : Records} {r : Reco
   next = go w.fuel w.enough w.sofar
     where
       go : (fuel : ℕ) → length script < s.at + fuel → Sofar (runs K script (room_of t₀)) (runs_from K script fuel (room_of t) w.calls (suc s.number) s.at) t₀ t → Next
-      go zero e z = let lt = f.left in absurd (omega arith)
+      go zero e z = absurd (omega arith)
       go (suc fuel) e z =
-          record { fuel = fuel; enough = omega arith; sofar = subst (λ b. Sofar (runs K script (room_of t₀)) (cond b (finish K script (room_of t) w.calls) (steps (runs_from K script fuel) K (room_of t) w.calls (suc s.number) (next_step script (room_of t) (suc s.number) s.at))) t₀ t) (lt-leb (length script) s.at f.left) z }
+          record { fuel = fuel; enough = omega arith; sofar = subst (λ b. Sofar (runs K script (room_of t₀)) (cond b (finish K script (room_of t) w.calls) (steps (runs_from K script fuel) K (room_of t) w.calls (suc s.number) (next_step script (room_of t) (suc s.number) s.at))) t₀ t) (lt-leb (length script) s.at left) z }
 
-  pub going_faulty : (e : Fault) → Err e ≡ cond (ltb (room_of t) 48) (Err (fault_as TraceFull r.number r.at)) (in_record r.number r.read) → Wrote (runs K script (room_of t₀)) t₀ t (Err e)
+  pub going_faulty : (e : Fault) → Err e ≡ next_step script (room_of t) (suc s.number) s.at → Wrote (runs K script (room_of t₀)) t₀ t (Err e)
   going_faulty e h =
       wrote_faulty (runs K script (room_of t₀)) w.calls e t₀ t
-      (subst (λ z. Sofar (runs K script (room_of t₀)) (steps (runs_from K script next.fuel) K (room_of t) w.calls (suc s.number) z) t₀ t) (sym (h ∙ in_turn)) next.sofar)
+      (subst (λ z. Sofar (runs K script (room_of t₀)) (steps (runs_from K script next.fuel) K (room_of t) w.calls (suc s.number) z) t₀ t) (sym h) next.sofar)
 
-  module _ {x : StepRead} (short : length script ≤ 65536) (counted : s.number ≤ s.at) (is : Ok x ≡ cond (ltb (room_of t) 48) (Err (fault_as TraceFull r.number r.at)) (in_record r.number r.read)) {a : Answered Answer} {l' : Line} {held' : ℕ → List ℕ} {t' : Trace} (asked : AskedAll K l x.step.call held a l' held') (adds : Adds t (step_record r.number x.step.call a) t') (time : (k : ℕ) → shown_time a ≡ Some k → k < 2 ^ 64) where
+  module _ {x : StepRead} {r : Record} {u : Records} (f : Follows script s r u) (short : length script ≤ 65536) (counted : s.number ≤ s.at) (read_next : Ok x ≡ next_step script (room_of t) (suc s.number) s.at) {a : Answered Answer} {l' : Line} {held' : ℕ → List ℕ} {t' : Trace} (asked : AskedAll K l x.step.call held a l' held') (adds : Adds t (step_record u.number x.step.call a) t') (time : (k : ℕ) → shown_time a ≡ Some k → k < 2 ^ 64) where
     answers : answer_to K w.calls x.step.call ≡ a
     answers = ap (λ z. answer_of (step K z x.step.call).event) w.line ∙ asked.answer
-
-    read_next : Ok x ≡ next_step script (room_of t) (suc s.number) s.at
-    read_next = is ∙ in_turn
 
     took : Taken (room_of t) (step_at (drop s.at script) s.at) x
     took = taken script (room_of t) (suc s.number) s.at x read_next
@@ -90,11 +84,11 @@ module _ {K : Kind} {script : List ℕ} {t₀ t : Trace} {s : Records} {r : Reco
     behind = sym (f.next ∙ ap (end_of (length script)) (f.read ∙ took.is))
 
     added : Adds t (step_record (suc s.number) x.step.call a) t'
-    added = subst (λ k. Adds t (step_record k x.step.call a) t') f.number adds
+    added = subst (λ k. Adds t (step_record k x.step.call a) t') f.counted adds
 
     fits : length (step_record (suc s.number) x.step.call a) ≤ room_of t
     fits =
-        let lt = f.left in
+        let lt = left in
         let p : suc s.number < 10 ^ 5 = omega arith in
         let small = took.small in
         let q = step_record_fits (suc s.number) x.step.call a p (subst (λ z. (k : ℕ) → shown_number x.step.call z ≡ Some k → k < 10 ^ 16) answers (shown_small K w.calls x.step.call (λ k e. let y = small k e in omega arith))) time in

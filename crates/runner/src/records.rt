@@ -1,5 +1,5 @@
 //! The records of a script, one after the other.
-ghost use Rattle.std.specs.Prelude.{◌≤◌, length};
+ghost use Rattle.std.specs.Prelude.{◌<◌, ◌≤◌, length};
 
 use crate::scripts::Script;
 use script::records::read_step;
@@ -18,14 +18,15 @@ pub(crate) struct Record {
 #[derive(Drop)]
 pub(crate) struct Records<'a> {
     script: Script<'a>,
-    at: usize,
-    number: usize,
+    pub at: usize,
+    pub number: usize,
     ghost counted: { number ≤ at },
     ghost within: { at ≤ length script.bytes.now },
 }
 
 impl<'a> Records<'a> {
-    ghost use Rattle.std.specs.Prelude.{◌≡◌};
+    ghost use Rattle.std.specs.Prelude.{◌≡◌, nat_le};
+    ghost use Rattle.runner.specs.Following.{Follows};
 
     /// All records of the script.
     pub(crate) fn of(script: Script<'a>) -> Records<'a>
@@ -37,6 +38,29 @@ impl<'a> Records<'a> {
             script,
             at: 0,
             number: 0,
+        }
+    }
+
+    /// Whether no record is left.
+    pub(crate) fn is_empty(&self) -> bool
+        ensures { result ≡ nat_le (length self.now.script.bytes.now) self.now.at }
+    {
+        self.at >= self.script.bytes.len()
+    }
+
+    /// Reads the next record.
+    pub(crate) fn read(&mut self) -> Record
+        requires { self.old.at < length self.old.script.bytes.now }
+        ensures { Follows self.old.script.bytes.now self.old result self.new }
+    {
+        let at = self.at;
+        let read = read_step(self.script.bytes, at);
+        self.at = read.map_or(self.script.bytes.len(), |read| read.next);
+        self.number += 1;
+        Record {
+            number: self.number,
+            at,
+            read,
         }
     }
 }
@@ -53,17 +77,9 @@ impl Iterator for Records<'_> {
     ghost remaining = { λ s. at_most (length s.script.bytes.now - s.at) };
 
     fn next(&mut self) -> Option<Record> {
-        if self.at >= self.script.bytes.len() {
+        if self.is_empty() {
             return None;
         }
-        let at = self.at;
-        let read = read_step(self.script.bytes, at);
-        self.at = read.map_or(self.script.bytes.len(), |read| read.next);
-        self.number += 1;
-        Some(Record {
-            number: self.number,
-            at,
-            read,
-        })
+        Some(self.read())
     }
 }

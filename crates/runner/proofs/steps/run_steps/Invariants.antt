@@ -1,13 +1,14 @@
-use Rattle.std.proofs.Common.{◌≡◌}
+use Rattle.std.proofs.Common.{◌≡◌, ◌-◌, length}
 use Rattle.line.specs.Books.{view_line}
 use Rattle.runner.proofs.StepLoop.{Going}
 use Rattle.runner.proofs.steps.run_steps.Given as goal
 
-abbrev pub invariant-loop-record : goal.invariant-loop-record
-invariant-loop-record g l =
+abbrev pub invariant-loop-records : goal.invariant-loop-records
+invariant-loop-records g l =
     record {
-      can : (goal.iterator-loop-record g).can_next l.record-iterator;
-      finite : (goal.iterator-loop-record g).is_finite l.record-iterator;
-      same : l.record-iterator.script.bytes.now ≡ l.script.bytes.now;
-      going : Going g.S.Kind.Machine.kind l.script.bytes.now l.initial.trace l.trace l.record-iterator.at l.record-iterator.number (view_line l.line.book) (g.S.Stations.held l.stations);
+      same : l.records.script.bytes.now ≡ l.script.bytes.now;
+      going : Going g.S.Kind.Machine.kind l.script.bytes.now l.initial.trace l.trace l.records.at l.records.number (view_line l.line.book) (g.S.Stations.held l.stations);
     }
+
+abbrev pub decreases-loop-records : goal.decreases-loop-records
+decreases-loop-records g l = length l.records.script.bytes.now - l.records.at
