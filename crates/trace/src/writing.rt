@@ -46,7 +46,12 @@ impl<'a> Trace<'a> {
     fn decimal(&mut self, n: u64)
         ensures { Adds self.old (decimal n) self.new }
     {
-        self.all(Buffer::new().format(n).as_bytes());
+        // One digit is written at once: itoa fills a buffer, which costs a short number more than its digit.
+        if n < 10 {
+            self.byte(b'0' + n as u8);
+        } else {
+            self.all(Buffer::new().format(n).as_bytes());
+        }
     }
 
     /// Adds a comma and a field behind it: a number, or nothing.
