@@ -118,14 +118,14 @@ fn show_readings<M: Panel>(
 /// Takes the commands through a line of two stations, and prints how each step went.
 fn show_line<M: Panel>(rt: &HostRuntime, commands: &[Command]) -> anyhow::Result<()> {
     println!(rt; "\n{}: {}", M::NAME, M::MEANING)?;
-    let mut traffic = Traffic::<M>::open(rt.alloc())?;
-    let mut first = Member::new(0, ONE_BY_ONE);
-    let mut second = Member::new(1, BY_THREES);
-    traffic.send_all(commands)?;
-    traffic.hear_all(&first)?;
-    traffic.hear_all(&second)?;
-    traffic.gather_all(&first)?;
-    traffic.gather_all(&second)?;
+    let mut first = Member::<M>::new(0, ONE_BY_ONE);
+    let mut second = Member::<M>::new(1, BY_THREES);
+    let mut traffic = Traffic::open(rt.alloc(), &mut first)?;
+    traffic.send_all(&mut first, commands)?;
+    traffic.hear_all(&mut first)?;
+    traffic.hear_all(&mut second)?;
+    traffic.gather_all(&mut first)?;
+    traffic.gather_all(&mut second)?;
     show_passages(rt, &traffic.passages)?;
     println!(rt; "Commands in the order in which each member ran them, as (final,#):")?;
     show_run(rt, &mut traffic, &mut first)?;

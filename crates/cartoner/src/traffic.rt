@@ -1,11 +1,12 @@
-//! The steps that take commands through a line of two members.
+//! The steps that take commands through a line of two members. Each call is made by `Line::ask`, whose contract states
+//! the ordering theorem; the station that it takes is touched by a run alone.
 ghost use Rattle.std.specs.Prelude.{◌<◌};
 
 use crate::refused::Refused;
 use line::state::{Line, Station};
 use machine::command::Command;
 use machine::kind::Machine;
-use ordering::calls::Refusal;
+use ordering::calls::{Answer, Call, Refusal};
 use std::alloc::Global;
 
 /// How many members the line has.
@@ -59,8 +60,10 @@ fn run_earliest<M: Machine>(
     line: &mut Line<M>,
     station: &mut Station<M>,
 ) -> Result<Option<(u64, u64)>, Refused> {
-    match line.run(station) {
-        Ok(pair) => Ok(Some(pair)),
+    let member = station.member();
+    match line.ask(Call::Run { member }, station) {
+        Ok(Answer::Ran(pair)) => Ok(Some(pair)),
+        Ok(answer) => Err(Refused::Answer(answer)),
         Err(Refusal::NothingReady) => Ok(None),
         Err(refusal) => Err(refusal.into()),
     }
@@ -68,9 +71,16 @@ fn run_earliest<M: Machine>(
 
 impl<M: Machine> Traffic<M> {
     /// An open line, and no command.
-    pub(crate) fn open(heap: Global) -> Result<Self, Refused> {
+    pub(crate) fn open(heap: Global, member: &mut Member<M>) -> Result<Self, Refused> {
         let mut line = Line::new();
-        line.open(MEMBERS, LAST_NUMBER)?;
+        let call = Call::Open {
+            members: MEMBERS,
+            last: LAST_NUMBER,
+        };
+        let answer = line.ask(call, &mut member.station)?;
+        let Answer::Opened = answer else {
+            return Err(Refused::Answer(answer));
+        };
         Ok(Traffic {
             line,
             passages: Vec::new(heap),
@@ -78,13 +88,25 @@ impl<M: Machine> Traffic<M> {
     }
 
     /// Sends the commands to both members, from each of the two in turn.
-    pub(crate) fn send_all(&mut self, commands: &[Command]) -> anyhow::Result<()> {
+    pub(crate) fn send_all(
+        &mut self,
+        member: &mut Member<M>,
+        commands: &[Command],
+    ) -> anyhow::Result<()> {
         for (turn, command) in commands.iter().enumerate() {
             let sender = (turn % 2) as u8;
-            let number = self
+            let call = Call::Send {
+                sender,
+                set: BOTH,
+                command: *command,
+            };
+            let answer = self
                 .line
-                .send(sender, BOTH, *command)
+                .ask(call, &mut member.station)
                 .map_err(Refused::from)?;
+            let Answer::Issued(number) = answer else {
+                return Err(Refused::Answer(answer).into());
+            };
             self.passages.push(Passage {
                 command: *command,
                 sender,
@@ -97,12 +119,19 @@ impl<M: Machine> Traffic<M> {
     }
 
     /// The member hears the commands in its bursts, the newest of a burst first.
-    pub(crate) fn hear_all(&mut self, member: &Member<M>) -> Result<(), Refused> {
+    pub(crate) fn hear_all(&mut self, member: &mut Member<M>) -> Result<(), Refused> {
         let Traffic { line, passages } = self;
         let hearer = member.station.member();
         for together in passages.chunks_mut(member.burst) {
             for passage in together.iter_mut().rev() {
-                let proposal = line.hear(hearer, passage.number)?;
+                let call = Call::Hear {
+                    member: hearer,
+                    number: passage.number,
+                };
+                let answer = line.ask(call, &mut member.station)?;
+                let Answer::Proposed(proposal) = answer else {
+                    return Err(Refused::Answer(answer));
+                };
                 if let Some(place) = passage.proposals.get_mut(usize::from(hearer)) {
                     *place = Some(proposal);
                 }
@@ -112,11 +141,19 @@ impl<M: Machine> Traffic<M> {
     }
 
     /// The proposals of the member are gathered.
-    pub(crate) fn gather_all(&mut self, member: &Member<M>) -> Result<(), Refused> {
+    pub(crate) fn gather_all(&mut self, member: &mut Member<M>) -> Result<(), Refused> {
         let Traffic { line, passages } = self;
         let proposer = member.station.member();
         for passage in passages.iter_mut() {
-            passage.timestamp = line.gather(proposer, passage.number)?;
+            let call = Call::Gather {
+                member: proposer,
+                number: passage.number,
+            };
+            let answer = line.ask(call, &mut member.station)?;
+            let Answer::Fixed(timestamp) = answer else {
+                return Err(Refused::Answer(answer));
+            };
+            passage.timestamp = timestamp;
         }
         Ok(())
     }
@@ -133,7 +170,14 @@ impl<M: Machine> Traffic<M> {
         let runner = member.station.member();
         for together in passages.chunks(member.burst) {
             for passage in together.iter().rev() {
-                line.settle(runner, passage.number).map_err(Refused::from)?;
+                let call = Call::Settle {
+                    member: runner,
+                    number: passage.number,
+                };
+                let answer = line.ask(call, &mut member.station).map_err(Refused::from)?;
+                let Answer::Clock(_) = answer else {
+                    return Err(Refused::Answer(answer).into());
+                };
                 // A bound in place of a `while let`, since a loop must be proved to end: no more run than were sent.
                 for _ in 0..passages.len() {
                     let Some(pair) = run_earliest(line, &mut member.station)? else {
