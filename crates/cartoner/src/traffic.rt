@@ -1,6 +1,9 @@
-//! The steps that take commands through a line of two members. Each call is made by `Line::ask`, whose contract states
-//! the ordering theorem; the station that it takes is touched by a run alone.
-ghost use Rattle.std.specs.Prelude.{◌<◌};
+//! The steps that take commands through a line of two members. Each call is made by `make`, whose contract states the
+//! ordering theorem; the station that it takes is touched by a run alone.
+ghost use Rattle.std.specs.Prelude.{◌<◌, List};
+ghost use Rattle.line.specs.Asking.{call_at, Leads, LeadsOn};
+ghost use Rattle.line.specs.Books.{view_line};
+ghost use Rattle.ordering.specs.declared.calls.Call.{Call};
 
 use crate::refused::Refused;
 use line::state::{Line, Station};
@@ -55,13 +58,25 @@ pub(crate) struct Traffic<M> {
     pub(crate) passages: Vec<Passage>,
 }
 
+/// Makes a call on the line. Whatever calls have led a new line and the member's fresh station here, this call leads
+/// them on, and the ordering theorem holds of all of them.
+fn make<M: Machine>(
+    line: &mut Line<M>,
+    call: Call,
+    station: &mut Station<M>,
+) -> Result<Answer, Refusal>
+    ensures { (cs : List Call) → Leads M.kind cs (view_line line.old.book) station.old.member (M.cells station.old.machine) → LeadsOn M.kind (call_at call station.old.member) cs (view_line line.new.book) station.old.member (M.cells station.new.machine) result }
+{
+    line.ask(call, station)
+}
+
 /// Runs the earliest ready command at the station, if there is one.
 fn run_earliest<M: Machine>(
     line: &mut Line<M>,
     station: &mut Station<M>,
 ) -> Result<Option<(u64, u64)>, Refused> {
     let member = station.member();
-    match line.ask(Call::Run { member }, station) {
+    match make(line, Call::Run { member }, station) {
         Ok(Answer::Ran(pair)) => Ok(Some(pair)),
         Ok(answer) => Err(Refused::Answer(answer)),
         Err(Refusal::NothingReady) => Ok(None),
@@ -77,7 +92,7 @@ impl<M: Machine> Traffic<M> {
             members: MEMBERS,
             last: LAST_NUMBER,
         };
-        let answer = line.ask(call, &mut member.station)?;
+        let answer = make(&mut line, call, &mut member.station)?;
         let Answer::Opened = answer else {
             return Err(Refused::Answer(answer));
         };
@@ -100,10 +115,7 @@ impl<M: Machine> Traffic<M> {
                 set: BOTH,
                 command: *command,
             };
-            let answer = self
-                .line
-                .ask(call, &mut member.station)
-                .map_err(Refused::from)?;
+            let answer = make(&mut self.line, call, &mut member.station).map_err(Refused::from)?;
             let Answer::Issued(number) = answer else {
                 return Err(Refused::Answer(answer).into());
             };
@@ -128,7 +140,7 @@ impl<M: Machine> Traffic<M> {
                     member: hearer,
                     number: passage.number,
                 };
-                let answer = line.ask(call, &mut member.station)?;
+                let answer = make(line, call, &mut member.station)?;
                 let Answer::Proposed(proposal) = answer else {
                     return Err(Refused::Answer(answer));
                 };
@@ -149,7 +161,7 @@ impl<M: Machine> Traffic<M> {
                 member: proposer,
                 number: passage.number,
             };
-            let answer = line.ask(call, &mut member.station)?;
+            let answer = make(line, call, &mut member.station)?;
             let Answer::Fixed(timestamp) = answer else {
                 return Err(Refused::Answer(answer));
             };
@@ -174,7 +186,7 @@ impl<M: Machine> Traffic<M> {
                     member: runner,
                     number: passage.number,
                 };
-                let answer = line.ask(call, &mut member.station).map_err(Refused::from)?;
+                let answer = make(line, call, &mut member.station).map_err(Refused::from)?;
                 let Answer::Clock(_) = answer else {
                     return Err(Refused::Answer(answer).into());
                 };
